@@ -1,0 +1,5 @@
+use Rattle.std.proofs.shelf.Lists.{nil-from-length}
+use Rattle.fields.proofs.layout.EndLayout.spell.Needs as need
+
+pub returns : need.returns
+returns c = nil-from-length _ (c .pre .width)

@@ -1,0 +1,102 @@
+-- What payments come to: a row for each code, the last payment, and the totals of each side.
+use mathlib.Core.List.{List, [], _∷_, map}
+use mathlib.Core.Bool.{Bool, cond}
+use Prim.Native.Nat.{ℕ, _+_, _-_, _^_, min, max}
+use lib.Dec.{eqb}
+use lib.ListN.{length, take, drop, getD, set}
+use Rattle.std.specs.declared.option.Option.{Option}
+use Rattle.std.specs.declared.option.Option.the-variants.{Some, None}
+use Rattle.std.specs.shelf.Lists.{sumBy, countBy}
+use Rattle.fields.specs.Numbers.{in-table}
+use Rattle.records.specs.declared.trailer.Trailer.{Trailer}
+use Rattle.records.specs.Payments.{PaymentOf}
+use Rattle.houses.specs.declared.tally.Row.{Row}
+use Rattle.houses.specs.declared.tally.Last.{Last}
+use Rattle.houses.specs.declared.tally.Tally.{Tally}
+
+abbrev pub no-row : Row
+no-row = record { count = 0; cents = 0 }
+
+-- the last payment, by what a house is shown of it
+pub record LastOf : Type 0 where
+  pub bsb : ℕ
+  pub account : List ℕ
+  pub code : ℕ
+
+-- a tally by its values
+pub record TallyOf : Type 0 where
+  pub rows : List Row
+  pub last : Option LastOf
+
+abbrev pub last-of : Option Last → Option LastOf
+last-of None = None
+last-of (Some l) = Some (record { bsb = l .bsb; account = l .account .now; code = l .code })
+
+abbrev pub tally-of : Tally → TallyOf
+tally-of t = record { rows = t .rows; last = last-of (t .last) }
+
+-- the nine codes, in the order of their rows
+abbrev pub the-codes : List ℕ
+the-codes = 13 ∷ 50 ∷ 51 ∷ 52 ∷ 53 ∷ 54 ∷ 55 ∷ 56 ∷ 57 ∷ []
+
+abbrev pub is-debit : PaymentOf → Bool
+is-debit p = eqb (p .code) 13
+
+-- how many payments have a code, and their cents
+abbrev pub row-for : List PaymentOf → ℕ → Row
+row-for ps code = record { count = countBy (λ p. eqb (p .code) code) ps; cents = sumBy (λ p. cond (eqb (p .code) code) (p .cents) 0) ps }
+
+abbrev pub shown-last : PaymentOf → LastOf
+shown-last p = record { bsb = p .bsb; account = p .account; code = p .code }
+
+abbrev pub last-payment : List PaymentOf → Option LastOf
+last-payment [] = None
+last-payment (p ∷ []) = Some (shown-last p)
+last-payment (p ∷ q ∷ ps) = last-payment (q ∷ ps)
+
+-- the tally of some payments
+abbrev pub tallied : List PaymentOf → TallyOf
+tallied ps = record { rows = map (row-for ps) the-codes; last = last-payment ps }
+
+-- the cents of each side
+abbrev pub credits : List PaymentOf → ℕ
+credits ps = sumBy (λ p. cond (is-debit p) 0 (p .cents)) ps
+
+abbrev pub debits : List PaymentOf → ℕ
+debits ps = sumBy (λ p. cond (is-debit p) (p .cents) 0) ps
+
+-- the larger less the smaller
+abbrev pub apart : ℕ → ℕ → ℕ
+apart m n = max m n - min m n
+
+-- the totals of some payments, as their trailer says them
+abbrev pub totals : List PaymentOf → Trailer
+totals ps = record { net = apart (credits ps) (debits ps); credit = credits ps; debit = debits ps; count = length ps }
+
+-- the sums of a tally's rows: the first is the debits', the others are the credits'
+abbrev pub rows-debit : List Row → ℕ
+rows-debit rows = sumBy (λ r. r .cents) (take 1 rows)
+
+abbrev pub rows-credit : List Row → ℕ
+rows-credit rows = sumBy (λ r. r .cents) (drop 1 rows)
+
+abbrev pub rows-count : List Row → ℕ
+rows-count rows = sumBy (λ r. r .count) rows
+
+-- counts and cents stop at the largest number of 64 bits
+abbrev pub capped : ℕ → ℕ
+capped n = min n (2 ^ 64 - 1)
+
+-- the place of a code's row
+abbrev pub place-of : ℕ → ℕ
+place-of code = cond (eqb code 13) 0 (code - 49)
+
+abbrev pub one-more : Row → ℕ → Row
+one-more row cents = record { count = capped (row .count + 1); cents = capped (row .cents + cents) }
+
+-- a tally with one payment more; a code that is not in the table has no row
+abbrev pub with-payment : TallyOf → PaymentOf → TallyOf
+with-payment t p = record {
+  rows = cond (in-table (p .code)) (set (t .rows) (place-of (p .code)) (one-more (getD (t .rows) (place-of (p .code)) no-row) (p .cents))) (t .rows);
+  last = Some (shown-last p);
+}

@@ -1,0 +1,5 @@
+// A bank's extra rules, behind one interface, and the tally that they judge.
+pub mod house;
+pub mod objection;
+pub mod plain;
+pub mod tally;

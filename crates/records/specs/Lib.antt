@@ -1,0 +1,4 @@
+pub mod Headers
+pub mod Lines
+pub mod Payments
+pub mod Trailers
