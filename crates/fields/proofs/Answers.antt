@@ -10,6 +10,7 @@ use Rattle.fields.specs.declared.faults.Fault.{Fault}
 use Rattle.fields.specs.declared.faults.Place.{Place}
 use Rattle.fields.specs.Faults.{Misfit}
 use Rattle.fields.specs.Kinds.{answered, placedAt, mapOk}
+use Rattle.fields.specs.Layouts.{or-later}
 
 module _ {V : Type 0} where
   pub passed : (o : Option Fault) (v w : V) → Ok w ≡ answered o v → o ≡ None
@@ -24,6 +25,24 @@ module _ {V : Type 0} where
   gave None v w h = cc
   gave (Some e) v w h = let z : _≡_ {A = ℕ} 0 1 = cc in absurd (omega arith)
 
+-- the same answer with its value made over, and the same refusal where another value was to come
+pub carried : {V W : Type 0} (g : V → W) (o : Option Fault) (v x : V) → Ok x ≡ answered o v → Ok (g x) ≡ answered o (g v)
+carried g None v x h = ap Ok (ap g (gave None v x h))
+carried g (Some e) v x h = let z : _≡_ {A = ℕ} 0 1 = cc in absurd (omega arith)
+
+pub refused : {V W : Type 0} (o : Option Fault) (v : V) (w : W) (f : Fault) → Err f ≡ answered o v → Err f ≡ answered o w
+refused o v w f h = sym (ap (λ o. answered o w) (stopped o v f h))
+
 pub unplaced : (p : Place) (o : Option Misfit) → placedAt p o ≡ None → o ≡ None
 unplaced p None h = refl
 unplaced p (Some m) h = let z : _≡_ {A = ℕ} 0 1 = cc in absurd (omega arith)
+
+-- a value that is judged once more after it was read
+module _ {V : Type 0} (a : Option Fault) (v : V) (later : V → Option Fault) where
+  pub first-step : (f : Fault) → Err f ≡ answered a v → Err f ≡ answered (or-later a (later v)) v
+  first-step f h = sym (ap (λ o. answered (or-later o (later v)) v) (stopped a v f h))
+
+  pub both-steps : (x : V) → Ok x ≡ answered a v → later x ≡ None → Ok x ≡ answered (or-later a (later v)) v
+  both-steps x h k =
+      let same = gave a v x h in
+      ap Ok same ∙ sym (ap (λ o. answered (or-later o (later v)) v) (passed a v x h) ∙ ap (λ o. answered o v) (sym (ap later same) ∙ k))

@@ -74,11 +74,14 @@ abbrev pub totals : List PaymentOf → Trailer
 totals ps = record { net = apart (credits ps) (debits ps); credit = credits ps; debit = debits ps; count = length ps }
 
 -- the sums of a tally's rows: the first is the debits', the others are the credits'
+abbrev pub rows-cents : List Row → ℕ
+rows-cents rows = sumBy (λ r. r .cents) rows
+
 abbrev pub rows-debit : List Row → ℕ
-rows-debit rows = sumBy (λ r. r .cents) (take 1 rows)
+rows-debit rows = rows-cents (take 1 rows)
 
 abbrev pub rows-credit : List Row → ℕ
-rows-credit rows = sumBy (λ r. r .cents) (drop 1 rows)
+rows-credit rows = rows-cents (drop 1 rows)
 
 abbrev pub rows-count : List Row → ℕ
 rows-count rows = sumBy (λ r. r .count) rows
@@ -87,16 +90,18 @@ rows-count rows = sumBy (λ r. r .count) rows
 abbrev pub capped : ℕ → ℕ
 capped n = min n (2 ^ 64 - 1)
 
--- the place of a code's row
-abbrev pub place-of : ℕ → ℕ
-place-of code = cond (eqb code 13) 0 (code - 49)
+-- the place of a code's row; a code that is not in the table has none
+abbrev pub place-of : ℕ → Option ℕ
+place-of code = cond (in-table code) (Some (cond (eqb code 13) 0 (code - 49))) None
 
 abbrev pub one-more : Row → ℕ → Row
 one-more row cents = record { count = capped (row .count + 1); cents = capped (row .cents + cents) }
 
--- a tally with one payment more; a code that is not in the table has no row
+-- rows with one payment more, at a place if any
+abbrev pub row-added : List Row → Option ℕ → ℕ → List Row
+row-added rows None cents = rows
+row-added rows (Some place) cents = set rows place (one-more (getD rows place no-row) cents)
+
+-- a tally with one payment more
 abbrev pub with-payment : TallyOf → PaymentOf → TallyOf
-with-payment t p = record {
-  rows = cond (in-table (p .code)) (set (t .rows) (place-of (p .code)) (one-more (getD (t .rows) (place-of (p .code)) no-row) (p .cents))) (t .rows);
-  last = Some (shown-last p);
-}
+with-payment t p = record { rows = row-added (t .rows) (place-of (p .code)) (p .cents); last = Some (shown-last p) }

@@ -2,4 +2,5 @@
 pub mod house;
 pub mod objection;
 pub mod plain;
+pub mod tallies;
 pub mod tally;

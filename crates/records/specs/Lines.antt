@@ -1,4 +1,4 @@
--- One line of a file: its length, its end, and which record it begins.
+-- One line of a file: its length, its end, and which record it is.
 use mathlib.Core.List.{List}
 use mathlib.Core.Bool.{cond}
 use Prim.Native.Nat.{ℕ, _+_}
@@ -6,11 +6,13 @@ use lib.Dec.{eqb, ltb}
 use lib.ListN.{length, take, getD}
 use Rattle.std.specs.declared.option.Option.{Option}
 use Rattle.std.specs.declared.option.Option.the-variants.{Some, None}
+use Rattle.std.specs.declared.result.Result.{Result}
+use Rattle.std.specs.declared.result.Result.the-variants.{Ok, Err}
 use Rattle.fields.specs.declared.faults.Cause.{Cause}
 use Rattle.fields.specs.declared.faults.Cause.the-variants.{Short, LineEnd, RecordType}
 use Rattle.fields.specs.declared.faults.Fault.{Fault}
 use Rattle.records.specs.declared.tag.Tag.{Tag}
-use Rattle.records.specs.declared.tag.Tag.the-variants.{Header, Detail, Trailer}
+use Rattle.records.specs.declared.tag.Tag.the-variants.{Detail, Trailer}
 
 abbrev pub fault-at : Cause → ℕ → ℕ → Fault
 fault-at cause line column = record { cause = cause; line = line; column = column }
@@ -23,9 +25,13 @@ line-fault line rest =
     (cond (eqb (getD rest 121 0) 10) None (Some (fault-at LineEnd line 122)))
     (Some (fault-at LineEnd line 121)))
 
--- the record that a line begins: line 1 is due a header, a later one a detail or the trailer
-abbrev pub tag-of : ℕ → ℕ → Option Tag
-tag-of line byte = cond (eqb line 1) (cond (eqb byte 48) (Some Header) None) (cond (eqb byte 49) (Some Detail) (cond (eqb byte 55) (Some Trailer) None))
-
 abbrev pub no-record : ℕ → Fault
 no-record line = fault-at RecordType line 1
+
+-- line 1 is due a header
+abbrev pub head-fault : ℕ → ℕ → Option Fault
+head-fault line byte = cond (eqb byte 48) None (Some (no-record line))
+
+-- a later line is due a detail or the trailer
+abbrev pub tagged : ℕ → ℕ → Result Tag Fault
+tagged line byte = cond (eqb byte 49) (Ok Detail) (cond (eqb byte 55) (Ok Trailer) (Err (no-record line)))

@@ -1,6 +1,8 @@
 // The three records of a file: header, detail and trailer.
 pub mod header;
-pub mod line;
+mod layouts;
+pub mod lines;
 pub mod payment;
+pub mod readings;
 pub mod tag;
 pub mod trailer;

@@ -1,7 +1,6 @@
-// Which of the three records a line begins.
+// What a line after the first begins.
 #[derive(Clone, Copy)]
 pub enum Tag {
-    Header,
     Detail,
     Trailer,
 }

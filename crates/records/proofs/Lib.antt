@@ -1,0 +1,3 @@
+pub mod LineEnds
+mod Parts
+pub mod Shapes
