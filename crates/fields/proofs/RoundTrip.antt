@@ -14,7 +14,7 @@ use Rattle.fields.specs.Kinds.{Kind, Lawful, fault, placedAt}
 use Rattle.fields.specs.Layouts.{Row, end, then, Values, AllLawful, Admitted, RoundTrip, size, or-later, first-fault, values, form-fault, spelled}
 use Rattle.fields.proofs.Answers.{unplaced}
 
-none-first : (a b : Option Fault) → or-later a b ≡ None → (a ≡ None) × (b ≡ None)
+pub none-first : (a b : Option Fault) → or-later a b ≡ None → (a ≡ None) × (b ≡ None)
 none-first None b h = (refl, h)
 none-first (Some m) b h = let z : _≡_ {A = ℕ} 0 1 = cc in absurd (omega arith)
 

@@ -1,4 +1,5 @@
 pub mod Headers
 pub mod Lines
 pub mod Payments
+pub mod Records
 pub mod Trailers

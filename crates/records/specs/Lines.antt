@@ -1,9 +1,10 @@
 -- One line of a file: its length, its end, and which record it is.
+use denote.Ref.{RefT}
 use mathlib.Core.List.{List}
 use mathlib.Core.Bool.{cond}
 use Prim.Native.Nat.{ℕ, _+_}
 use lib.Dec.{eqb, ltb}
-use lib.ListN.{length, take, getD}
+use lib.ListN.{length, take, drop, getD}
 use Rattle.std.specs.declared.option.Option.{Option}
 use Rattle.std.specs.declared.option.Option.the-variants.{Some, None}
 use Rattle.std.specs.declared.result.Result.{Result}
@@ -35,3 +36,10 @@ head-fault line byte = cond (eqb byte 48) None (Some (no-record line))
 -- a later line is due a detail or the trailer
 abbrev pub tagged : ℕ → ℕ → Result Tag Fault
 tagged line byte = cond (eqb byte 49) (Ok Detail) (cond (eqb byte 55) (Ok Trailer) (Err (no-record line)))
+
+-- a line's columns, and what follows it
+abbrev pub cut : List ℕ → List ℕ × List ℕ
+cut rest = (take 120 rest, drop 122 rest)
+
+abbrev pub cut-of : RefT (List ℕ) × RefT (List ℕ) → List ℕ × List ℕ
+cut-of c = (c .0 .now, c .1 .now)

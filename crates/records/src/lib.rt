@@ -4,5 +4,6 @@ mod layouts;
 pub mod lines;
 pub mod payment;
 pub mod readings;
+pub mod record;
 pub mod tag;
 pub mod trailer;

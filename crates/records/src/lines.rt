@@ -1,15 +1,15 @@
 // One line of a file: its 120 columns, and which record they are.
 ghost use mathlib.Core.Path.{_≡_};
-ghost use lib.ListN.{take, getD};
+ghost use lib.ListN.{getD};
 ghost use Rattle.fields.specs.Kinds.{answered, mapOk};
-ghost use Rattle.records.specs.Lines.{line-fault, head-fault, tagged, no-record};
+ghost use Rattle.records.specs.Lines.{line-fault, head-fault, tagged, no-record, cut, cut-of};
 use crate::tag::Tag;
 use fields::faults::Cause;
 use fields::faults::Fault;
 
-// The columns of a line, where `rest` is what is left of the file there.
-pub fn columns(rest: &[u8], line: usize) -> Result<&[u8; 120], Fault>
-    ensures { λ r. ⌜ mapOk now r ≡ answered (line-fault line (now (rest .entry))) (take 120 (now (rest .entry))) ⌝ }
+// The columns of a line, and what follows it, where `rest` is what is left of the file there.
+pub fn cut_line(rest: &[u8], line: usize) -> Result<(&[u8; 120], &[u8]), Fault>
+    ensures { λ r. ⌜ mapOk cut-of r ≡ answered (line-fault line (now (rest .entry))) (cut (now (rest .entry))) ⌝ }
 {
     if rest.len() < 122 {
         return Err(Fault {
@@ -33,7 +33,7 @@ pub fn columns(rest: &[u8], line: usize) -> Result<&[u8; 120], Fault>
         });
     }
     match rest.first_chunk::<120>() {
-        Some(columns) => Ok(columns),
+        Some(columns) => Ok((columns, &rest[122..])),
         None => unreachable(),
     }
 }

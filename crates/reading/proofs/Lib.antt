@@ -1,0 +1,11 @@
+mod Answered
+mod Closed
+mod Closings
+pub mod Exact
+mod Listed
+mod Openings
+mod Passed
+mod Sofar
+mod Spelled
+mod Steps
+mod Taken

@@ -1,0 +1,46 @@
+-- A reading that comes to payments was refused nowhere on its way.
+use mathlib.Core.Path.{_≡_, refl}
+use mathlib.Core.Logic.{_⊎_, inl, inr}
+use Prim.Native.Nat.{ℕ}
+use native.Mathlib.Omega.{arith}
+use Rattle.std.specs.declared.option.Option.{Option}
+use Rattle.std.specs.declared.option.Option.the-variants.{Some, None}
+use Rattle.std.specs.declared.result.Result.{Result}
+use Rattle.std.specs.declared.result.Result.the-variants.{Ok, Err}
+use Rattle.fields.specs.declared.faults.Fault.{Fault}
+use Rattle.records.specs.declared.tag.Tag.{Tag}
+use Rattle.records.specs.declared.tag.Tag.the-variants.{Detail, Trailer as IsTrailer}
+use Rattle.records.specs.Lines.{tagged}
+use Rattle.houses.specs.declared.objection.Objection.{Objection}
+use Rattle.reading.specs.Reading.{past, by-tag, objected, tally-refused}
+
+module _ {X : Type 0} where
+  pub same-ok : (x y : X) → _≡_ {A = Result X Fault} (Ok x) (Ok y) → x ≡ y
+  same-ok x y h = cc
+
+  pub no-ok : (f : Fault) (x : X) → _≡_ {A = Result X Fault} (Err f) (Ok x) → ⊥
+  no-ok f x h = let z : _≡_ {A = ℕ} 0 1 = cc in omega arith
+
+  pub passed : (o : Option Fault) (r : Result X Fault) (x : X) → past o r ≡ Ok x → (o ≡ None) × (r ≡ Ok x)
+  passed None r x h = (refl, h)
+  passed (Some f) r x h = absurd (no-ok f x h)
+
+  pub passes : (o : Option Fault) (r : Result X Fault) (x : X) → o ≡ None → r ≡ Ok x → past o r ≡ Ok x
+  passes o r x none h = rw none h
+
+  pub by-either : (t : Result Tag Fault) (detail trailer : Result X Fault) (x : X) → by-tag t detail trailer ≡ Ok x → (detail ≡ Ok x) ⊎ (trailer ≡ Ok x)
+  by-either (Err f) detail trailer x h = absurd (no-ok f x h)
+  by-either (Ok Detail) detail trailer x h = inl h
+  by-either (Ok IsTrailer) detail trailer x h = inr h
+
+  pub by-detail : (line byte : ℕ) (detail trailer : Result X Fault) (x : X) → byte ≡ 49 → detail ≡ Ok x → by-tag (tagged line byte) detail trailer ≡ Ok x
+  by-detail line byte detail trailer x e h = rw e h
+
+module _ (line : ℕ) where
+  pub unobjected : (o : Option Objection) → objected line o ≡ None → o ≡ None
+  unobjected None h = refl
+  unobjected (Some o) h = let z : _≡_ {A = ℕ} 0 1 = cc in absurd (omega arith)
+
+  pub tally-unrefused : (o : Option ℕ) → tally-refused line o ≡ None → o ≡ None
+  tally-unrefused None h = refl
+  tally-unrefused (Some reason) h = let z : _≡_ {A = ℕ} 0 1 = cc in absurd (omega arith)

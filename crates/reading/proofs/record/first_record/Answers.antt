@@ -1,0 +1,18 @@
+use mathlib.Core.Path.{sym, _∙_}
+use lib.ListN.{getD}
+use Rattle.std.proofs.shelf.Results.{err-from-errBy}
+use Rattle.fields.specs.Kinds.{answered}
+use Rattle.fields.proofs.Answers.{refused}
+use Rattle.records.specs.Headers.{header-fault, header-value}
+use Rattle.records.specs.Lines.{head-fault}
+use Rattle.records.specs.Records.{a-header}
+use Rattle.reading.proofs.Steps.{past-here}
+use Rattle.reading.proofs.record.first_record.Needs as need
+
+pub returns-in-Break-header : need.returns-in-Break-header
+returns-in-Break-header c =
+    let p = err-from-errBy (c .from-residual-in-Break-header .result) (c .from-residual-in-Break-header .ensures .1) in
+    let line = c .args .line in
+    let bs = c .args .columns .now in
+    let then = past-here (head-fault line (getD bs 0 0)) tt (answered (header-fault line bs) (a-header (header-value bs))) _ (c .in-Continue-expect-header .ensures tt) in
+    rw (p .1, p .2) (refused (header-fault line bs) (header-value bs) (a-header (header-value bs)) _ (c .in-Break-header .ensures tt) ∙ sym then)

@@ -1,0 +1,4 @@
+// Reading a file: one record by its line, or all of it.
+pub mod read;
+pub mod record;
+pub mod summary;

@@ -1,0 +1,10 @@
+// What an accepted file comes to.
+use houses::tally::Tally;
+use records::trailer::Trailer;
+
+// The tally of a file's payments, and their totals.
+#[derive(Clone, Copy)]
+pub struct Summary<'a> {
+    pub tally: Tally<'a>,
+    pub totals: Trailer,
+}
