@@ -39,7 +39,10 @@ pub impl fmt::Display for Answer as AnswerDisplay {
                     debit,
                     count,
                 } = totals;
-                write!(f, "accepted details={count} net={net} credit={credit} debit={debit}")
+                write!(
+                    f,
+                    "accepted details={count} net={net} credit={credit} debit={debit}"
+                )
             }
             Err(fault) => {
                 let number = fault.cause.number();

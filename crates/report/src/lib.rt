@@ -1,2 +1,3 @@
 // How answers are printed.
 pub mod answer;
+pub mod record;

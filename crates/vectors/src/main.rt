@@ -1,0 +1,97 @@
+// Runs stored files through `read` and `record`, and prints what they answer.
+// The answers that it is held to were made by the second implementation.
+mod cases;
+
+use cases::Cases;
+use houses::plain::Plain;
+use houses::plain::PlainHouse;
+use houses::tally::Tally;
+use reading::read::read;
+use reading::record::record;
+use reading::summary::Summary;
+use report::answer::Answer;
+use report::answer::AnswerDisplay;
+use report::record::Bsb;
+use report::record::BsbDisplay;
+use report::record::RecordLine;
+use report::record::RecordLineDisplay;
+use std::error::AnyError;
+use std::io::BufWriter;
+use std::io::Read;
+use std::io::Write;
+use std::str::from_utf8;
+
+const CODES: [u64; 9] = [13, 50, 51, 52, 53, 54, 55, 56, 57];
+
+fn print_tally(out: &mut impl Write, tally: &Tally) -> Result<(), AnyError> {
+    write!(out, "tally")?;
+    for i in 0..9 {
+        let code = CODES[i];
+        let count = tally.rows[i].count;
+        let cents = tally.rows[i].cents;
+        write!(out, " {code}:{count}:{cents}")?;
+    }
+    if let Some(last) = tally.last {
+        let bsb = Bsb(last.bsb);
+        let account = from_utf8(last.account)?;
+        let code = last.code;
+        write!(out, " last {bsb} {account} {code}")?;
+    }
+    writeln!(out)?;
+    Ok(())
+}
+
+fn print_file(out: &mut impl Write, file: &[u8]) -> Result<(), AnyError> {
+    let mut place = Summary::new();
+    match read(file, &Plain, &mut place) {
+        Ok(()) => {
+            let answer = Answer(Ok(place.totals));
+            writeln!(out, "{answer}")?;
+            print_tally(out, &place.tally)
+        }
+        Err(fault) => {
+            let answer = Answer(Err(fault));
+            writeln!(out, "{answer}")?;
+            Ok(())
+        }
+    }
+}
+
+fn print_record(out: &mut impl Write, file: &[u8], line: usize) -> Result<(), AnyError> {
+    match record(file, line) {
+        Ok(record) => {
+            let shown = RecordLine(record);
+            writeln!(out, "{line}: {shown}")?;
+        }
+        Err(fault) => {
+            let answer = Answer(Err(fault));
+            writeln!(out, "{line}: {answer}")?;
+        }
+    }
+    Ok(())
+}
+
+fn run(rt: &LibcRuntime) -> Result<(), AnyError> {
+    let heap = rt.alloc();
+    let mut stored = Vec::new(heap);
+    rt.stdin().read_to_end(&mut stored)?;
+    let mut cases = Cases::new(&stored);
+    let mut out = BufWriter::new(rt.stdout());
+    let mut file = Vec::new(heap);
+    for number in 1..u64::MAX {
+        if !cases.next_file(&mut file)? {
+            break;
+        }
+        writeln!(out, "case {number}")?;
+        print_file(&mut out, &file)?;
+        for line in cases.lines()?.split(' ').skip(1) {
+            print_record(&mut out, &file, line.parse::<usize>()?)?;
+        }
+    }
+    out.flush()?;
+    Ok(())
+}
+
+fn main(rt: LibcRuntime) -> Result<(), AnyError> {
+    rt.report(run(&rt))
+}
