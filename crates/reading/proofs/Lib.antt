@@ -9,3 +9,4 @@ mod Sofar
 mod Spelled
 mod Steps
 mod Taken
+mod Worked

@@ -2,6 +2,7 @@
 ghost use mathlib.Core.Path.{_≡_};
 ghost use Rattle.fields.specs.Kinds.{mapOk};
 ghost use Rattle.records.specs.Records.{record-of};
+ghost use Rattle.reading.specs.Worked.{Worked};
 ghost use Rattle.reading.specs.Reading.{rest-at, first-at, later-at, record-at};
 use fields::faults::Fault;
 use records::header::Header;
@@ -55,7 +56,8 @@ fn later_record(columns: &[u8; 120], line: usize) -> Result<Record, Fault>
 
 // What a line of a file says, or why it says nothing. Line 0 is a line with no bytes.
 pub fn record(file: &[u8], line: usize) -> Result<Record, Fault>
-    ensures { λ r. ⌜ mapOk record-of r ≡ record-at line (rest-at (now (file .entry)) line) ⌝ }
+    ensures answer { λ r. ⌜ mapOk record-of r ≡ record-at line (rest-at (now (file .entry)) line) ⌝ }
+    ensures worked { λ _. ⌜ Worked ⌝ }
 {
     let (columns, _) = cut_line(rest_at(file, line), line)?;
     if line == 1 {

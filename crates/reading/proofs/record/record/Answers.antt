@@ -6,10 +6,12 @@ use lib.Dec.{eqb}
 use Rattle.std.specs.declared.result.Result.the-variants.{Ok, Err}
 use Rattle.std.proofs.shelf.Results.{err-from-errBy}
 use Rattle.std.proofs.shelf.Tests.{eq-eqb, ne-eqb, cond-true, cond-false}
-use Rattle.fields.specs.Kinds.{answered}
+use Rattle.fields.specs.Kinds.{answered, mapOk}
 use Rattle.fields.proofs.Answers.{gave}
 use Rattle.records.specs.Lines.{line-fault, cut}
+use Rattle.records.specs.Records.{record-of}
 use Rattle.reading.specs.Reading.{rest-at, first-at, later-at, record-at}
+use Rattle.reading.proofs.Worked.{worked}
 use Rattle.reading.proofs.Steps.{refused-here, past-here}
 use Rattle.reading.proofs.record.record.Needs as need
 
@@ -29,12 +31,19 @@ returns-in-Break-columns c =
     let p = err-from-errBy (c .from-residual .result) (c .from-residual .ensures .1) in
     let line = c .args .line in
     let rest = c .rest-at .result .now in
-    rw (p .1, p .2) (refused-here (line-fault line rest) (cut rest) _ _ (c .in-Break-columns .ensures tt) ∙ ap (record-at line) (c .rest-at .ensures))
+    record {
+      answer = ap (mapOk record-of) (p .1 ∙ ap Err (p .2)) ∙ refused-here (line-fault line rest) (cut rest) _ _ (c .in-Break-columns .ensures tt) ∙ ap (record-at line) (c .rest-at .ensures);
+      worked = worked;
+    }
 
 pub returns-then-line-eq1 : need.returns-then-line-eq1
-returns-then-line-eq1 c =
-    c .first-record .ensures ∙ first (c .args .line) (c .args .file .now) _ _ _ (c .rest-at .ensures) (c .in-Continue-columns .ensures tt) (c .if-line-eq1 .taken)
+returns-then-line-eq1 c = record {
+  answer = c .first-record .ensures ∙ first (c .args .line) (c .args .file .now) _ _ _ (c .rest-at .ensures) (c .in-Continue-columns .ensures tt) (c .if-line-eq1 .taken);
+  worked = worked;
+}
 
 pub returns-else-line-eq1 : need.returns-else-line-eq1
-returns-else-line-eq1 c =
-    c .later-record .ensures ∙ later (c .args .line) (c .args .file .now) _ _ _ (c .rest-at .ensures) (c .in-Continue-columns .ensures tt) (c .if-line-eq1 .left)
+returns-else-line-eq1 c = record {
+  answer = c .later-record .ensures ∙ later (c .args .line) (c .args .file .now) _ _ _ (c .rest-at .ensures) (c .in-Continue-columns .ensures tt) (c .if-line-eq1 .left);
+  worked = worked;
+}
