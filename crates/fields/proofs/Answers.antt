@@ -1,5 +1,5 @@
 -- What an answer says of the fault that it came from.
-use mathlib.Core.Path.{_≡_, refl, sym, ap, _∙_}
+use mathlib.Core.Path.{_≡_, refl, sym, ap, subst, _∙_}
 use Prim.Native.Nat.{ℕ}
 use native.Mathlib.Omega.{arith}
 use Rattle.std.specs.declared.option.Option.{Option}
@@ -24,6 +24,10 @@ module _ {V : Type 0} where
   pub gave : (o : Option Fault) (v w : V) → Ok w ≡ answered o v → w ≡ v
   gave None v w h = cc
   gave (Some e) v w h = let z : _≡_ {A = ℕ} 0 1 = cc in absurd (omega arith)
+
+  -- what holds of the value that is due, where nothing is wrong, holds of the one that came
+  pub came : (P : V → Type 0) (o : Option Fault) (v w : V) → Ok w ≡ answered o v → (o ≡ None → P v) → P w
+  came P o v w h k = subst P (sym (gave o v w h)) (k (passed o v w h))
 
 -- the same answer with its value made over, and the same refusal where another value was to come
 pub carried : {V W : Type 0} (g : V → W) (o : Option Fault) (v x : V) → Ok x ≡ answered o v → Ok (g x) ≡ answered o (g v)

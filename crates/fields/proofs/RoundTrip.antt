@@ -69,7 +69,7 @@ spelled-read (then k l) ok v h =
     let later = ap (values l) (back k l (ok .0) (v .0) rest (h .0)) ∙ spelled-read l (ok .1) (v .1) (h .1) in
     (λ i. (here i, later i))
 
-judged : (l : Row) (p : Place) (v : Values l) → form-fault l p v ≡ None → Admitted l v
+pub judged : (l : Row) (p : Place) (v : Values l) → form-fault l p v ≡ None → Admitted l v
 judged end p v h = tt
 judged (then k l) p v h = let none = none-first _ _ h in (unplaced p _ (none .0), judged l (right p (k .width)) (v .1) (none .1))
 

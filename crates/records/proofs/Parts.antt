@@ -4,21 +4,20 @@ use mathlib.Core.List.{List, _++_}
 use Prim.Native.Nat.{ℕ}
 use lib.ListN.{take, drop}
 use Rattle.std.specs.declared.option.Option.{Option}
-use Rattle.std.specs.declared.option.Option.the-variants.{Some, None}
-use Rattle.std.specs.declared.result.Result.{Result}
+use Rattle.std.specs.declared.option.Option.the-variants.{None}
 use Rattle.std.specs.declared.result.Result.the-variants.{Ok, Err}
 use lib.Chars.{codes}
 use Rattle.fields.specs.declared.faults.Fault.{Fault}
 use Rattle.fields.specs.declared.faults.Place.{Place}
-use Rattle.fields.specs.Faults.{right}
 use Rattle.fields.specs.Kinds.{answered}
-use Rattle.fields.specs.Layouts.{Row, end, then, Values, or-later, first-fault, values, form-fault, spelled}
+use Rattle.fields.specs.Layouts.{Row, end, then, Values, or-later, first-fault, values, form-fault, spelled, Admitted}
 use Rattle.fields.specs.Numbers.{number-kind, code-kind, bsb-kind}
 use Rattle.fields.specs.Texts.{fixed-kind, text-kind, account-kind, mark-kind}
 use Rattle.fields.proofs.Answers.{passed, stopped, gave}
-use Rattle.fields.proofs.Joined.{join, both, fault-join, values-join, form-join, spelled-join}
+use Rattle.fields.proofs.Joined.{both, fault-join, values-join, form-join, spelled-join}
+use Rattle.fields.proofs.RoundTrip.{none-first, judged}
 use Rattle.records.specs.Headers.{start}
-use Rattle.records.specs.Payments.{PaymentOf, payment-row, payment-from, payment-value}
+use Rattle.records.specs.Payments.{PaymentOf, payment-row, payment-from, payment-value, payment-wrong, payment-bytes, tax-fault}
 
 abbrev pub front-row : Row
 front-row = then (fixed-kind (codes "1")) (then bsb-kind (then account-kind (then mark-kind (then code-kind (then (number-kind 10 1) (then (text-kind 32) end))))))
@@ -50,3 +49,25 @@ module _ (line : ℕ) (bs : List ℕ) where
     by-both w k =
         let read : both front-row back-row v w ≡ values payment-row bs = (λ i. both front-row back-row (gave _ _ v h i) (gave _ _ w k i)) ∙ sym (values-join front-row back-row bs) in
         ap Ok (ap payment-from read) ∙ sym (ap (λ o. answered o (payment-value bs)) (rest ∙ passed _ _ _ k))
+
+-- the parts of a form
+abbrev pub front-values : PaymentOf → Values front-row
+front-values p = (tt, (p .bsb, (p .account, (p .mark, (p .code, (p .cents, (p .title, tt)))))))
+
+abbrev pub back-values : PaymentOf → Values back-row
+back-values p = (p .reference, (p .trace-bsb, (p .trace-account, (p .remitter, (p .tax, tt)))))
+
+module _ (p : PaymentOf) where
+  -- a form is judged by its first part, then by its second, and then by its tax
+  pub wrong-at : (a b : Option Fault) → form-fault front-row (start 0) (front-values p) ≡ a → form-fault back-row (middle 0) (back-values p) ≡ b → payment-wrong p ≡ or-later (or-later a b) (tax-fault 0 p)
+  wrong-at a b ha hb = ap (λ o. or-later o (tax-fault 0 p)) (form-join front-row back-row (start 0) (front-values p) (back-values p) ∙ (λ i. or-later (ha i) (hb i)))
+
+  -- so each part of one that is refused for nothing can be spelled
+  pub parts-admitted : payment-wrong p ≡ None → Admitted front-row (front-values p) × Admitted back-row (back-values p)
+  parts-admitted h =
+      let fields = none-first _ _ (sym (wrong-at _ _ refl refl) ∙ h) .0 in
+      let none = none-first (form-fault front-row (start 0) (front-values p)) (form-fault back-row (middle 0) (back-values p)) fields in
+      (judged front-row (start 0) (front-values p) (none .0), judged back-row (middle 0) (back-values p) (none .1))
+
+  pub parts-spelled : payment-bytes p ≡ spelled front-row (front-values p) ++ spelled back-row (back-values p)
+  parts-spelled = spelled-join front-row back-row (front-values p) (back-values p)

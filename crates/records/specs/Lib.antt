@@ -2,4 +2,5 @@ pub mod Headers
 pub mod Lines
 pub mod Payments
 pub mod Records
+pub mod RoundTrips
 pub mod Trailers

@@ -1,4 +1,5 @@
 // The three records of a file: header, detail and trailer.
+pub mod forms;
 pub mod header;
 mod layouts;
 pub mod lines;

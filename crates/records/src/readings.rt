@@ -1,9 +1,9 @@
 // Each record read from its 120 columns.
 ghost use mathlib.Core.Path.{_≡_};
 ghost use Rattle.std.specs.Vec.{made};
-ghost use Rattle.std.specs.declared.option.Option.the-variants.{None};
 ghost use Rattle.fields.specs.Kinds.{answered, mapOk};
 ghost use Rattle.fields.specs.Layouts.{first-fault};
+ghost use Rattle.records.specs.RoundTrips.{SpellsBack};
 ghost use Rattle.records.specs.Headers.{start, header-of, header-fault, header-value, header-wrong, header-bytes};
 ghost use Rattle.records.specs.Payments.{payment-of, payment-row, payment-fault, payment-value, payment-wrong, payment-bytes, tax-fault};
 ghost use Rattle.records.specs.Trailers.{trailer-fault, trailer-value, trailer-wrong, trailer-bytes};
@@ -32,7 +32,8 @@ use fields::text::TextField;
 impl<'a> Header<'a> {
     // The header that the columns say, or the first fault.
     pub fn read(columns: &'a [u8; 120], line: usize) -> Result<Header<'a>, Fault>
-        ensures { λ r. ⌜ mapOk header-of r ≡ answered (header-fault line (now (columns .entry))) (header-value (now (columns .entry))) ⌝ }
+        ensures answer { λ r. ⌜ mapOk header-of r ≡ answered (header-fault line (now (columns .entry))) (header-value (now (columns .entry))) ⌝ }
+        ensures spelled_back { λ r. ⌜ made r (λ h. SpellsBack header-wrong header-bytes (header-of h) (now (columns .entry))) ⌝ }
     {
         let bytes: &[u8] = columns;
         let (_, (_, (_, (bank, (_, (user_name, (user_number, (description, (date, _))))))))) =
@@ -79,7 +80,8 @@ impl<'a> Payment<'a> {
 
     // The payment that the columns of a detail say, or the first fault.
     pub fn read(columns: &'a [u8; 120], line: usize) -> Result<Payment<'a>, Fault>
-        ensures { λ r. ⌜ mapOk payment-of r ≡ answered (payment-fault line (now (columns .entry))) (payment-value (now (columns .entry))) ⌝ }
+        ensures answer { λ r. ⌜ mapOk payment-of r ≡ answered (payment-fault line (now (columns .entry))) (payment-value (now (columns .entry))) ⌝ }
+        ensures spelled_back { λ r. ⌜ made r (λ p. SpellsBack payment-wrong payment-bytes (payment-of p) (now (columns .entry))) ⌝ }
     {
         let payment = Payment::read_fields(columns, line)?;
         judge_tax(&payment, line)?;
@@ -107,7 +109,8 @@ pub(crate) fn judge_tax(payment: &Payment, line: usize) -> Result<(), Fault>
 impl Trailer {
     // The trailer that the columns say, or the first fault.
     pub fn read(columns: &[u8; 120], line: usize) -> Result<Trailer, Fault>
-        ensures { λ r. ⌜ r ≡ answered (trailer-fault line (now (columns .entry))) (trailer-value (now (columns .entry))) ⌝ }
+        ensures answer { λ r. ⌜ r ≡ answered (trailer-fault line (now (columns .entry))) (trailer-value (now (columns .entry))) ⌝ }
+        ensures spelled_back { λ r. ⌜ made r (λ t. SpellsBack trailer-wrong trailer-bytes t (now (columns .entry))) ⌝ }
     {
         let bytes: &[u8] = columns;
         let (_, (_, (_, (net, (credit, (debit, (_, (count, _)))))))) = TRAILER.read(

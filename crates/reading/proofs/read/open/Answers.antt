@@ -24,7 +24,7 @@ returns-in-Break-header g c =
     let p = err-from-errBy (c .from-residual-in-Break-header .result) (c .from-residual-in-Break-header .ensures .1) in
     let R = g .H·House .rules (c .args .house .now) in
     let line = c .in-Continue-columns in
-    rw (p .1, p .2) (bad-header R (c .args .file .now) (line .columns .now) (line .rest .now) (line .ensures tt) (c .in-Continue-expect-header .ensures tt) _ (c .in-Break-header .ensures tt))
+    rw (p .1, p .2) (bad-header R (c .args .file .now) (line .columns .now) (line .rest .now) (line .ensures tt) (c .in-Continue-expect-header .ensures tt) _ (c .in-Break-header .ensures tt .answer))
 
 pub returns-in-Break-heed : need.returns-in-Break-heed
 returns-in-Break-heed g c =
@@ -33,11 +33,11 @@ returns-in-Break-heed g c =
     let line = c .in-Continue-columns in
     rw (p .1, p .2)
     (header-refused R (c .args .file .now) (line .columns .now) (line .rest .now) (line .ensures tt) (c .in-Continue-expect-header .ensures tt)
-    (header-of (c .in-Continue-header .header)) (c .in-Continue-header .ensures tt) _ (c .objects-to-header .ensures) _ (c .in-Break-heed .ensures tt))
+    (header-of (c .in-Continue-header .header)) (c .in-Continue-header .ensures tt .answer) _ (c .objects-to-header .ensures) _ (c .in-Break-heed .ensures tt))
 
 pub returns : need.returns
 returns g c =
     let R = g .H·House .rules (c .args .house .now) in
     let line = c .in-Continue-columns in
     header-taken R (c .args .file .now) (line .columns .now) (line .rest .now) (line .ensures tt) (c .in-Continue-expect-header .ensures tt)
-    (header-of (c .in-Continue-header .header)) (c .in-Continue-header .ensures tt) _ (c .objects-to-header .ensures) (c .in-Continue-heed .ensures tt)
+    (header-of (c .in-Continue-header .header)) (c .in-Continue-header .ensures tt .answer) _ (c .objects-to-header .ensures) (c .in-Continue-heed .ensures tt)

@@ -2,7 +2,7 @@ use mathlib.Core.Path.{sym, _∙_}
 use lib.ListN.{getD}
 use Rattle.std.proofs.shelf.Results.{err-from-errBy}
 use Rattle.fields.specs.Kinds.{answered}
-use Rattle.fields.proofs.Answers.{refused}
+use Rattle.fields.proofs.Answers.{refused, carried}
 use Rattle.records.specs.Headers.{header-fault, header-value}
 use Rattle.records.specs.Lines.{head-fault}
 use Rattle.records.specs.Records.{a-header}
@@ -15,4 +15,11 @@ returns-in-Break-header c =
     let line = c .args .line in
     let bs = c .args .columns .now in
     let then = past-here (head-fault line (getD bs 0 0)) tt (answered (header-fault line bs) (a-header (header-value bs))) _ (c .in-Continue-expect-header .ensures tt) in
-    rw (p .1, p .2) (refused (header-fault line bs) (header-value bs) (a-header (header-value bs)) _ (c .in-Break-header .ensures tt) ∙ sym then)
+    rw (p .1, p .2) (refused (header-fault line bs) (header-value bs) (a-header (header-value bs)) _ (c .in-Break-header .ensures tt .answer) ∙ sym then)
+
+pub returns : need.returns
+returns c =
+    let line = c .args .line in
+    let bs = c .args .columns .now in
+    let then = past-here (head-fault line (getD bs 0 0)) tt (answered (header-fault line bs) (a-header (header-value bs))) _ (c .in-Continue-expect-header .ensures tt) in
+    carried a-header (header-fault line bs) (header-value bs) _ (c .in-Continue-header .ensures tt .answer) ∙ sym then

@@ -29,23 +29,23 @@ returns-in-Break-payment c =
     let p = err-from-errBy (c .from-residual-in-Break-payment .result) (c .from-residual-in-Break-payment .ensures .1) in
     let line = c .args .line in
     let bs = c .args .columns .now in
-    rw (p .1, p .2) (refused (payment-fault line bs) (payment-value bs) (a-detail (payment-value bs)) _ (c .in-Break-payment .ensures tt) ∙ as-detail line bs _ (c .in-Continue-tag .ensures tt) (c .in-Detail .is))
+    rw (p .1, p .2) (refused (payment-fault line bs) (payment-value bs) (a-detail (payment-value bs)) _ (c .in-Break-payment .ensures tt .answer) ∙ as-detail line bs _ (c .in-Continue-tag .ensures tt) (c .in-Detail .is))
 
 pub returns-in-Break-trailer : need.returns-in-Break-trailer
 returns-in-Break-trailer c =
     let p = err-from-errBy (c .from-residual-in-Break-trailer .result) (c .from-residual-in-Break-trailer .ensures .1) in
     let line = c .args .line in
     let bs = c .args .columns .now in
-    rw (p .1, p .2) (refused (trailer-fault line bs) (trailer-value bs) (a-trailer (trailer-value bs)) _ (c .in-Break-trailer .ensures tt) ∙ as-trailer line bs _ (c .in-Continue-tag .ensures tt) (c .in-Trailer .is))
+    rw (p .1, p .2) (refused (trailer-fault line bs) (trailer-value bs) (a-trailer (trailer-value bs)) _ (c .in-Break-trailer .ensures tt .answer) ∙ as-trailer line bs _ (c .in-Continue-tag .ensures tt) (c .in-Trailer .is))
 
 pub returns-in-Continue-payment : need.returns-in-Continue-payment
 returns-in-Continue-payment c =
     let line = c .args .line in
     let bs = c .args .columns .now in
-    carried a-detail (payment-fault line bs) (payment-value bs) _ (c .in-Continue-payment .ensures tt) ∙ as-detail line bs _ (c .in-Continue-tag .ensures tt) (c .in-Detail .is)
+    carried a-detail (payment-fault line bs) (payment-value bs) _ (c .in-Continue-payment .ensures tt .answer) ∙ as-detail line bs _ (c .in-Continue-tag .ensures tt) (c .in-Detail .is)
 
 pub returns-in-Continue-trailer : need.returns-in-Continue-trailer
 returns-in-Continue-trailer c =
     let line = c .args .line in
     let bs = c .args .columns .now in
-    carried a-trailer (trailer-fault line bs) (trailer-value bs) _ (c .in-Continue-trailer .ensures tt) ∙ as-trailer line bs _ (c .in-Continue-tag .ensures tt) (c .in-Trailer .is)
+    carried a-trailer (trailer-fault line bs) (trailer-value bs) _ (c .in-Continue-trailer .ensures tt .answer) ∙ as-trailer line bs _ (c .in-Continue-tag .ensures tt) (c .in-Trailer .is)
