@@ -3,12 +3,14 @@
 mod cases;
 
 use cases::Cases;
+use fields::faults::Fault;
 use houses::plain::Plain;
 use houses::plain::PlainHouse;
 use houses::tally::Tally;
 use reading::read::read;
 use reading::record::record;
 use reading::summary::Summary;
+use records::record::Record;
 use report::answer::Answer;
 use report::answer::AnswerDisplay;
 use report::record::Bsb;
@@ -57,11 +59,37 @@ fn print_file(out: &mut impl Write, file: &[u8]) -> Result<(), AnyError> {
     }
 }
 
+// A record spelled again, from its values.
+fn spelled(record: Record) -> Result<[u8; 120], Fault> {
+    let mut columns = [0; 120];
+    match record {
+        Record::Header(header) => header.spell(&mut columns)?,
+        Record::Detail(payment) => payment.spell(&mut columns)?,
+        Record::Trailer(trailer) => trailer.spell(&mut columns)?,
+    }
+    Ok(columns)
+}
+
+// Whether a record is spelled as its line has it.
+fn is_spelled_back(file: &[u8], line: usize, record: Record) -> Result<bool, Fault> {
+    let columns = spelled(record)?;
+    let bytes: &[u8] = &columns;
+    let start = line.saturating_sub(1).saturating_mul(122);
+    match file.get(start..start.saturating_add(120)) {
+        Some(part) => Ok(part == bytes),
+        None => Ok(false),
+    }
+}
+
 fn print_record(out: &mut impl Write, file: &[u8], line: usize) -> Result<(), AnyError> {
     match record(file, line) {
         Ok(record) => {
             let shown = RecordLine(record);
             writeln!(out, "{line}: {shown}")?;
+            match is_spelled_back(file, line, record) {
+                Ok(true) => {}
+                _ => writeln!(out, "{line}: is spelled otherwise")?,
+            }
         }
         Err(fault) => {
             let answer = Answer(Err(fault));
