@@ -1,0 +1,69 @@
+// How a book is made, filled and read.
+ghost use mathlib.Core.Bool.{cond};
+ghost use mathlib.Core.List.{[], _∷_, _++_};
+ghost use mathlib.Core.Path.{_≡_};
+ghost use lib.ListN.{length};
+ghost use Rattle.std.specs.Results.{isOk};
+ghost use Rattle.fields.specs.Kinds.{answered};
+ghost use Rattle.book.specs.Search.{Climbs};
+ghost use Rattle.book.specs.Books.{rows-of, room-of, row-fault, above-last, nowhere};
+use crate::book::Book;
+use crate::numbered::Numbered;
+use fields::faults::Cause;
+use fields::faults::Fault;
+
+impl<'a, R: Numbered + Drop> Book<'a, R> {
+    // A book that holds no rows, and has room for as many as the slice.
+    pub fn new(rows: &'a mut [R]) -> Book<'a, R>
+        ensures empty { λ r. ⌜ rows-of r ≡ [] ⌝ }
+        ensures room { λ r. ⌜ room-of r ≡ length (now (rows .entry)) ⌝ }
+    {
+        Book { rows, used: 0 }
+    }
+
+    // The rows in use.
+    pub fn rows(&self) -> &[R]
+        ensures { λ r. ⌜ now r ≡ rows-of (now (self .entry)) ⌝ }
+    {
+        &self.rows[0..self.used]
+    }
+
+    // A row at the end: refused where its number is not above the last one's, and then where every row is taken.
+    pub fn add(&mut self, row: R) -> Result<(), Fault>
+        ensures answer { λ r. ⌜ r ≡ answered (row-fault (R·Numbered .key) (rows-of (now (self .entry))) (room-of (now (self .entry))) (R·Numbered .key row)) tt ⌝ }
+        ensures after { λ r. ⌜ rows-of (now (self .exit)) ≡ cond (isOk r) (rows-of (now (self .entry)) ++ row ∷ []) (rows-of (now (self .entry))) ⌝ }
+        ensures room { λ _. ⌜ room-of (now (self .exit)) ≡ room-of (now (self .entry)) ⌝ }
+        ensures rising { λ _. ⌜ (Climbs (R·Numbered .key) (rows-of (now (self .entry))) → Climbs (R·Numbered .key) (rows-of (now (self .exit)))) ⌝ }
+    {
+        expect_above(self.rows(), row.number())?;
+        if self.used >= self.rows.len() {
+            return Err(nowhere(Cause::BookFull));
+        }
+        self.rows[self.used] = row;
+        self.used += 1;
+        Ok(())
+    }
+}
+
+// A number above the last row's, if there is one.
+fn expect_above<R: Numbered>(rows: &[R], number: u32) -> Result<(), Fault>
+    ensures { λ r. ⌜ r ≡ answered (above-last (R·Numbered .key) (now (rows .entry)) number) tt ⌝ }
+{
+    if rows.is_empty() {
+        return Ok(());
+    }
+    if number <= rows[rows.len() - 1].number() {
+        return Err(nowhere(Cause::NotRising));
+    }
+    Ok(())
+}
+
+fn nowhere(cause: Cause) -> Fault
+    ensures { λ r. ⌜ r ≡ nowhere cause ⌝ }
+{
+    Fault {
+        cause,
+        line: 0,
+        column: 0,
+    }
+}
