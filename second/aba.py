@@ -1,11 +1,14 @@
-"""A second, independent reader of ABA files, written from docs/LAYOUT.md and
-docs/REFUSALS.md alone.
+"""A second, independent reader of ABA files, after docs/LAYOUT.md,
+docs/REFUSALS.md and docs/HOUSES.md, without sight of the engine's code.
 
-    read(data)          -> Summary, or a Fault
-    record(data, line)  -> Header, Detail or Trailer, or a Fault
-    show(data)          -> the line that the program `show` prints
+    read(data, house)     -> Summary, or a Fault; under the plain house if none is given
+    record(data, line)    -> Header, Detail or Trailer, or a Fault
+    house_of(words)       -> Plain, Listed or Balanced, or a Fault; may raise Misused
+    show(data)            -> the line that the program `show` prints
+    inspect(words, data)  -> the bytes that the program `inspect` prints
 
-All three work under the plain house, which says yes to everything.
+Without words on the command line it does what `show` does, with words what
+`inspect` does.
 
 It is a plain walk over each record from left to right.  The first thing that
 is wrong is raised, so "the first faulty field in column order" needs no care:
@@ -14,12 +17,15 @@ whatever is judged first is further left.
 
 import datetime
 import functools
+import os
 import sys
 from dataclasses import dataclass, field
 
 LINE = 122                  # 120 columns, CR, LF
 MOST_DETAILS = 999_999
 SHOW_LIMIT = 65_514         # bytes `show` takes from standard input
+LONGEST = LINE * (MOST_DETAILS + 2)     # bytes of the largest possible file
+BANK_LINES = 100            # lines that a bank list has room for
 
 DIGITS = frozenset(b"0123456789")
 LETTERS = frozenset(b"ABCDEFGHIJKLMNOPQRSTUVWXYZabcdefghijklmnopqrstuvwxyz")
@@ -47,14 +53,16 @@ class Fault:
     number: int
     line: int
     column: int
+    reason: int = 0             # a house's reason, for 12 and 19 only
 
     @property
     def layer(self):
         return LAYERS[self.number]
 
     def __str__(self):
+        reason = f" reason={self.reason}" if self.layer == "house" else ""
         return (f"refused {self.number} {self.layer} "
-                f"line={self.line} column={self.column}")
+                f"line={self.line} column={self.column}{reason}")
 
 
 @dataclass(frozen=True)
@@ -277,6 +285,171 @@ def judged(columns):
         return wrong
 
 
+# ----------------------------------------------------------------- houses
+
+@dataclass(frozen=True)
+class No:
+    """A house's no; a tally's has no column."""
+    reason: int
+    column: int = 0
+
+
+class Plain:
+    """Says yes to everything; the base of the other two."""
+
+    def header(self, header):
+        return None
+
+    def payment(self, payment):
+        return None
+
+    def tally(self, summary):
+        return None
+
+
+class Listed(Plain):
+    """Made from bank lines: pairs of a number and a name."""
+
+    def __init__(self, lines):
+        self.lines = []
+        for number, name in lines:
+            given_number(number, 2, 2)
+            given_text(name, 3, 21)
+            if self.lines and number <= self.lines[-1][0]:
+                raise Wrong(13, 0)
+            if len(self.lines) == BANK_LINES:
+                raise Wrong(14, 0)
+            self.lines.append((number, name))
+
+    def header(self, header):
+        if all(name != header.bank for _, name in self.lines):
+            return No(1, 21)
+        return None
+
+    def payment(self, payment):
+        for bsb, column in ((payment.bsb, 2), (payment.trace_bsb, 81)):
+            bank = int(f"{bsb:06}"[:2])
+            if all(number != bank for number, _ in self.lines):
+                return No(2, column)
+        return None
+
+
+class Balanced(Plain):
+    """Made from the settling BSB and account."""
+
+    def __init__(self, bsb, account):
+        given_number(bsb, 6, 2)
+        given_account(account, 9)
+        self.bsb = bsb
+        self.account = account
+
+    def header(self, header):
+        if header.bank != b"BQL":
+            return No(1, 21)
+        return semicolon((31, header.user_name), (63, header.description))
+
+    def payment(self, payment):
+        if payment.code in (51, 52):
+            return No(2, 19)
+        return semicolon((31, payment.title), (63, payment.reference), (97, payment.remitter))
+
+    def tally(self, summary):
+        if summary.credit != summary.debit:
+            return No(4)
+        last = summary.last
+        if last is None or last.bsb != self.bsb or last.account != self.account:
+            return No(5)
+        if last.code == DEBIT:
+            side = [DEBIT]
+        else:
+            side = [code for code in CODES if code != DEBIT]
+        if sum(summary.counts[code] for code in side) > 1:
+            return No(6)
+        return None
+
+
+def semicolon(*texts):
+    """The first semicolon of texts given with their first columns."""
+    for first, text in texts:
+        if b";" in text:
+            return No(3, first + text.index(b";"))
+    return None
+
+
+# What a house is made from is judged like the values of a form.
+
+def given_number(value, width, first):
+    if value >= 10 ** width:
+        raise Wrong(6, first)
+
+
+def given_text(value, width, first):
+    if len(value) > width:
+        raise Wrong(6, first)
+    for place, byte in enumerate(value):
+        if byte not in CHARACTERS:
+            raise Wrong(7, first + place)
+    if not value.strip(b" "):
+        raise Wrong(8, first)
+    if value[:1] == b" ":
+        raise Wrong(9, first)
+    if value[-1:] == b" ":
+        raise Wrong(9, first + len(value) - 1)
+
+
+def given_account(value, first):
+    if len(value) > 9:
+        raise Wrong(6, first)
+    start = first + 9 - len(value)          # right justified
+    for place, byte in enumerate(value):
+        if byte not in b"0123456789- ":
+            raise Wrong(7, start + place)
+    if not any(byte in b"123456789" for byte in value):
+        raise Wrong(8, first)
+    if b" " in value:
+        raise Wrong(9, start + value.index(b" "))
+
+
+class Misused(Exception):
+    """The words name no house."""
+
+
+def house_of(words):
+    """The house that these words (byte strings) name, or the Fault of its making."""
+    try:
+        if not words:
+            raise Misused("no house named")
+        kind, *rest = words
+        if kind == b"plain":
+            if rest:
+                raise Misused("plain takes no further words")
+            return Plain()
+        if kind == b"listed":
+            lines = []
+            for word in rest:
+                number, equals, name = word.partition(b"=")
+                if not equals:
+                    raise Misused("a bank line is NUMBER=NAME")
+                lines.append((number_of(number), name))
+            return Listed(lines)
+        if kind == b"balanced":
+            if len(rest) != 2:
+                raise Misused("balanced takes a BSB and an account")
+            return Balanced(number_of(rest[0]), rest[1])
+        raise Misused("no such house")
+    except Wrong as wrong:
+        return Fault(wrong.number, 0, wrong.column)
+
+
+def number_of(word):
+    """Decimal digits, at least one, for a number of at most 64 bits."""
+    if not word or any(byte not in DIGITS for byte in word):
+        raise Misused("a number is decimal digits")
+    if len(word.lstrip(b"0")) > 20 or int(word) >= 2 ** 64:
+        raise Misused("a number has at most 64 bits")
+    return int(word)
+
+
 # --------------------------------------------------------------- the file
 
 def framed(data, line):
@@ -305,8 +478,8 @@ def record(data, line):
     return found
 
 
-def read(data):
-    """A whole file under the plain house."""
+def read(data, house=Plain()):
+    """A whole file under a house."""
     summary = Summary()
     details = 0
     line = 0
@@ -322,10 +495,15 @@ def read(data):
         found = judged(columns)
         if isinstance(found, Wrong):
             return Fault(found.number, line, found.column)
-        if isinstance(found, Detail):
-            summary.add(found)
         if isinstance(found, Trailer):
             break
+        if isinstance(found, Detail):
+            no = house.payment(found)
+            summary.add(found)
+        else:
+            no = house.header(found)
+        if no:
+            return Fault(12, line, no.column, no.reason)
     if details == 0:
         return Fault(17, line, 1)
     if found.net != summary.net:
@@ -336,9 +514,36 @@ def read(data):
         return Fault(18, line, 41)
     if found.count != details:
         return Fault(18, line, 75)
+    no = house.tally(summary)
+    if no:
+        return Fault(19, line, 1, no.reason)
     if len(data) > LINE * line:
         return Fault(20, line + 1, 1)
     return summary
+
+
+# ---------------------------------------------------- what programs print
+
+def shown_bsb(number):
+    return b"%03d-%03d" % divmod(number, 1000)
+
+
+def shown(answer):
+    """The answer of `record` as printed."""
+    if isinstance(answer, Fault):
+        return str(answer).encode()
+    if isinstance(answer, Header):
+        parts = [b"header", answer.bank, answer.user_name, b"%d" % answer.user_number,
+                 answer.description, answer.date.strftime("%d/%m/%Y").encode()]
+    elif isinstance(answer, Detail):
+        parts = [b"detail", shown_bsb(answer.bsb), answer.account, answer.mark,
+                 b"%d" % answer.code, b"%d" % answer.cents, answer.title, answer.reference,
+                 shown_bsb(answer.trace_bsb), answer.trace_account, answer.remitter,
+                 b"%d" % answer.tax]
+    else:
+        parts = [b"trailer", b"%d" % answer.net, b"%d" % answer.credit, b"%d" % answer.debit,
+                 b"%d" % answer.count]
+    return b"\t".join(parts)
 
 
 def show(data):
@@ -348,5 +553,34 @@ def show(data):
     return f"{read(data)}\n"
 
 
+def inspect(words, data):
+    """What `inspect` prints to standard output for these words (strings or byte
+    strings) and this standard input.  Its status is 0 if that begins with
+    `accepted`, else 1."""
+    words = [os.fsencode(word) for word in words]
+    try:
+        house = house_of(words)
+    except Misused:
+        return b""
+    if isinstance(house, Fault):
+        return b""
+    answer = read(data, house)
+    lines = [str(answer).encode()]
+    if isinstance(answer, Summary):
+        lines += [shown(record(data, line)) for line in range(1, answer.details + 3)]
+    return b"".join(line + b"\n" for line in lines)
+
+
+def main(words):
+    if not words:
+        sys.stdout.write(show(sys.stdin.buffer.read()))
+        return 0
+    printed = inspect(words, sys.stdin.buffer.read(LONGEST + 1))
+    if not printed:
+        print("inspect: no such house, or it cannot be made: " + repr(words), file=sys.stderr)
+    sys.stdout.buffer.write(printed)
+    return 0 if printed.startswith(b"accepted") else 1
+
+
 if __name__ == "__main__":
-    sys.stdout.write(show(sys.stdin.buffer.read()))
+    sys.exit(main(sys.argv[1:]))

@@ -14,7 +14,7 @@ fixed seed, no clock), and takes a few seconds:
 
 A case in crates/vectors/stdin:
 
-    case plain
+    case plain                  the house, in words as on a command line
     piece TIMES LENGTH          any number of pieces, none for an empty file;
     <LENGTH raw bytes>          each LF after the raw bytes belongs to the format
     records 0 1 2 3             line numbers to put to `record`, perhaps none
@@ -28,6 +28,8 @@ times.  The answer to it in crates/vectors/stdout:
     N: ...                      the answer of `record` for each line number
 
 where a record is shown as its values, separated by tabs.
+
+All these cases are under the plain house; make_house_cases.py has the others.
 
 Cases damaged on purpose also say which fault they expect.  That is checked
 here against second/aba.py before anything is written.
@@ -133,7 +135,8 @@ assert len(SAMPLE) == 488
 
 # ----------------------------------------------------------------- the cases
 
-Case = collections.namedtuple("Case", "pieces records expect")
+Case = collections.namedtuple("Case", "pieces records expect house")
+PLAIN = (b"plain",)                 # the words that name the house of a case
 CASES = []
 ACCEPTED = "accepted"
 
@@ -147,8 +150,9 @@ def lines_to_ask(data):
     return asked
 
 
-def add(data, expect=None, records=None):
-    """A case of one file; `expect` is (number, line, column) or ACCEPTED."""
+def add(data, expect=None, records=None, house=PLAIN):
+    """A case of one file; `expect` is (number, line, column), for a house's no with
+    the reason behind it, or ACCEPTED."""
     if records is None:
         records = lines_to_ask(data)
     if not data:
@@ -158,7 +162,7 @@ def add(data, expect=None, records=None):
         pieces = [(1, data[:cut]), (1, data[cut:])]
     else:
         pieces = [(1, data)]
-    CASES.append(Case(pieces, records, expect))
+    CASES.append(Case(pieces, records, expect, house))
 
 
 def rest(lines=None):
@@ -166,8 +170,8 @@ def rest(lines=None):
     return (ONE if lines is None else lines) if len(CASES) % 3 == 0 else b""
 
 
-def add_pieces(pieces, expect, records):
-    CASES.append(Case(pieces, records, expect))
+def add_pieces(pieces, expect, records, house=PLAIN):
+    CASES.append(Case(pieces, records, expect, house))
 
 
 # ---- proper files
@@ -704,33 +708,11 @@ def damaged():
 
 # ------------------------------------------------------------------ writing
 
-def shown_bsb(number):
-    return b"%03d-%03d" % divmod(number, 1000)
-
-
-def shown(answer):
-    """The answer of `record` as printed."""
-    if isinstance(answer, aba.Fault):
-        return str(answer).encode()
-    if isinstance(answer, aba.Header):
-        parts = [b"header", answer.bank, answer.user_name, b"%d" % answer.user_number,
-                 answer.description, answer.date.strftime("%d/%m/%Y").encode()]
-    elif isinstance(answer, aba.Detail):
-        parts = [b"detail", shown_bsb(answer.bsb), answer.account, answer.mark,
-                 b"%d" % answer.code, b"%d" % answer.cents, answer.title, answer.reference,
-                 shown_bsb(answer.trace_bsb), answer.trace_account, answer.remitter,
-                 b"%d" % answer.tax]
-    else:
-        parts = [b"trailer", b"%d" % answer.net, b"%d" % answer.credit, b"%d" % answer.debit,
-                 b"%d" % answer.count]
-    return b"\t".join(parts)
-
-
 def shown_tally(summary):
     rows = b" ".join(b"%d:%d:%d" % (code, summary.counts[code], summary.cents[code])
                      for code in aba.CODES)
     last = summary.last
-    return b"tally %s last %s %s %d" % (rows, shown_bsb(last.bsb), last.account, last.code)
+    return b"tally %s last %s %s %d" % (rows, aba.shown_bsb(last.bsb), last.account, last.code)
 
 
 def check(place, case, answer):
@@ -744,7 +726,8 @@ def check(place, case, answer):
         raise SystemExit(f"case {place}: expected {case.expect}, but: {answer}")
 
 
-def main():
+def gather():
+    """All cases under the plain house."""
     known()
     proper_files()
     spoilt_lines()
@@ -759,43 +742,68 @@ def main():
     damaged()
     most_details()
 
+
+def kind_of(answer):
+    """What an answer counts as in the summary that is printed in the end."""
+    if not isinstance(answer, aba.Fault):
+        return ACCEPTED if isinstance(answer, aba.Summary) else type(answer).__name__
+    return f"{answer.number}" + (f" reason {answer.reason}" if answer.reason else "")
+
+
+def stored():
+    """CASES as stored: the cases, their answers, and how often each kind of answer
+    occurs, by the call that gave it."""
     cases, answers = [], []
-    by_number = collections.Counter()
-    by_record = collections.Counter()
+    counters = collections.defaultdict(collections.Counter)
     for place, case in enumerate(CASES, 1):
-        cases.append(b"case plain\n")
+        cases.append(b"case %s\n" % b" ".join(case.house))
         for times, raw in case.pieces:
             cases.append(b"piece %d %d\n%s\n" % (times, len(raw), raw))
         cases.append(b" ".join([b"records"] + [b"%d" % n for n in case.records]) + b"\n")
 
+        house = aba.house_of(case.house)
+        if isinstance(house, aba.Fault):
+            check(place, case, house)
+            counters[case.house[0].decode() + " made"][kind_of(house)] += 1
+            answers.append(b"case %d\nhouse %s\n" % (place, str(house).encode()))
+            continue
         data = b"".join(raw * times for times, raw in case.pieces)
-        answer = aba.read(data)
+        answer = aba.read(data, house)
         check(place, case, answer)
-        by_number[answer.number if isinstance(answer, aba.Fault) else ACCEPTED] += 1
+        counters[case.house[0].decode() + " read"][kind_of(answer)] += 1
         answers.append(b"case %d\n%s\n" % (place, str(answer).encode()))
         if isinstance(answer, aba.Summary):
             answers.append(shown_tally(answer) + b"\n")
         for number in case.records:
             one = aba.record(data, number)
-            by_record[one.number if isinstance(one, aba.Fault) else type(one).__name__] += 1
-            answers.append(b"%d: %s\n" % (number, shown(one)))
+            counters["record"][kind_of(one)] += 1
+            answers.append(b"%d: %s\n" % (number, aba.shown(one)))
+    return b"".join(cases), b"".join(answers), counters
 
-    files = {
-        "crates/vectors/stdin": b"".join(cases),
-        "crates/vectors/stdout": b"".join(answers),
-        "crates/show/stdin": SAMPLE,
-        "crates/show/stdout": aba.show(SAMPLE).encode(),
-    }
+
+def write(root, files, counters):
     for name, content in files.items():
-        path = os.path.join(ROOT, name)
+        path = os.path.join(root, name)
         os.makedirs(os.path.dirname(path), exist_ok=True)
         with open(path, "wb") as out:
             out.write(content)
         print(f"{name}: {len(content)} bytes")
     print(f"{len(CASES)} cases")
-    for what, counter in (("read", by_number), ("record", by_record)):
+    for what in sorted(counters):
+        counter = counters[what]
         print(what + ": " + ", ".join(f"{key} {counter[key]}" for key in sorted(
-            counter, key=lambda key: (isinstance(key, str), key))))
+            counter, key=lambda key: [int(part) if part.isdigit() else 99 for part in key.split()])))
+
+
+def main():
+    gather()
+    cases, answers, counters = stored()
+    write(ROOT, {
+        "crates/vectors/stdin": cases,
+        "crates/vectors/stdout": answers,
+        "crates/show/stdin": SAMPLE,
+        "crates/show/stdout": aba.show(SAMPLE).encode(),
+    }, counters)
 
 
 if __name__ == "__main__":

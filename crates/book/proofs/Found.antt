@@ -1,5 +1,6 @@
 -- What a search that halves the rows knows, and the place that it ends at.
-use mathlib.Core.Path.{_≡_, refl, sym, ap, _∙_}
+use mathlib.Core.Path.{_≡_, refl, sym, ap, subst, _∙_}
+use mathlib.Core.Logic.{inl, inr}
 use mathlib.Core.List.{List, [], _∷_}
 use Prim.Native.Nat.{ℕ, zero, suc, _+_, _<_, _≤_}
 use native.Mathlib.Numerals.{one-add}
@@ -9,7 +10,7 @@ use lib.ListN.{length, getD}
 use Rattle.std.specs.Places.{Rises}
 use Rattle.std.specs.shelf.Lists.{leading}
 use Rattle.std.proofs.shelf.Lists.{getD-read}
-use Rattle.std.proofs.shelf.Tests.{lt-ltb, le-ltb}
+use Rattle.std.proofs.shelf.Tests.{lt-ltb, le-ltb, ltb-true, ltb-false, cases-bool}
 use Rattle.book.specs.Search.{first-not-below}
 
 module _ {R : Type 0} (key : R → ℕ) (wanted : ℕ) where
@@ -32,3 +33,23 @@ module _ {R : Type 0} (key : R → ℕ) (wanted : ℕ) where
 
     pub not-below-it : wanted ≤ key row → (k : ℕ) (d : R) → m ≤ k → k < length rows → wanted ≤ key (getD rows k d)
     not-below-it more k d after inside = omega (arith, rises m k d after inside, key-there d)
+
+  -- rows before a place are below the wanted number, and the one that stands there is not
+  abbrev Parts : List R → ℕ → Type 0
+  Parts rows place = ((k : ℕ) (d : R) → k < place → key (getD rows k d) < wanted) × ((d : R) → place < length rows → wanted ≤ key (getD rows place d))
+
+  after-it : (row : R) (rows : List R) (place : ℕ) → key row < wanted → Parts rows place → (k : ℕ) (d : R) → k < suc place → key (getD (row ∷ rows) k d) < wanted
+  after-it row rows place less parts zero d before = less
+  after-it row rows place less parts (suc k) d before = parts .0 k d (omega arith)
+
+  pub place-tells : (rows : List R) → Parts rows (first-not-below key wanted rows)
+  place-tells [] = (λ k d less. absurd (omega arith), λ d less. absurd (omega arith))
+  place-tells (row ∷ rows) =
+      let rest = place-tells rows in
+      let n = first-not-below key wanted rows in
+      elim (cases-bool (ltb (key row) wanted)) [
+        | inl e ↦ let is : suc n ≡ first-not-below key wanted (row ∷ rows) = sym (rw e (one-add n)) in
+            subst (Parts (row ∷ rows)) is (after-it row rows n (ltb-true (key row) wanted e) rest, λ d less. rest .1 d (omega arith))
+        | inr e ↦ let is : 0 ≡ first-not-below key wanted (row ∷ rows) = sym (rw e refl) in
+            subst (Parts (row ∷ rows)) is (λ k d less. absurd (omega arith), λ d less. ltb-false (key row) wanted e)
+      ]

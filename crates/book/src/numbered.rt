@@ -8,13 +8,13 @@ ghost use Rattle.book.specs.Search.{first-not-below};
 pub trait Numbered {
     ghost key: { Self → ℕ };
 
-    fn number(&self) -> u32
+    fn number(&self) -> u64
         ensures { λ r. ⌜ r ≡ key (now (self .entry)) ⌝ };
 }
 
 // The first place whose number is not below the wanted one, wherever the numbers rise; some place of the rows, or their
 // end, where they do not.
-pub fn search<R: Numbered>(rows: &[R], wanted: u32) -> usize
+pub fn search<R: Numbered>(rows: &[R], wanted: u64) -> usize
     ensures within { λ r. ⌜ r ≤ length (now (rows .entry)) ⌝ }
     ensures found { λ r. ⌜ (Rises (R·Numbered .key) (now (rows .entry)) → r ≡ first-not-below (R·Numbered .key) wanted (now (rows .entry))) ⌝ }
 {

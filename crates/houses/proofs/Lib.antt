@@ -1,1 +1,2 @@
 pub mod Tallied
+mod OnList

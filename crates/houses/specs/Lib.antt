@@ -1,3 +1,5 @@
+pub mod Balanced
 pub mod Laws
+pub mod Listed
 pub mod Rules
 pub mod Tallies

@@ -86,6 +86,10 @@ rows-credit rows = rows-cents (drop 1 rows)
 abbrev pub rows-count : List Row → ℕ
 rows-count rows = sumBy (λ r. r .count) rows
 
+-- how many payments are on the side of a code
+abbrev pub side-count : List Row → ℕ → ℕ
+side-count rows code = rows-count (cond (eqb code 13) (take 1 rows) (drop 1 rows))
+
 -- counts and cents stop at the largest number of 64 bits
 abbrev pub capped : ℕ → ℕ
 capped n = min n (2 ^ 64 - 1)

@@ -1,7 +1,7 @@
 // How a tally is made, grows and is summed.
 ghost use mathlib.Core.List.{[]};
 ghost use mathlib.Core.Path.{_≡_};
-ghost use Rattle.houses.specs.Tallies.{one-more, place-of, rows-cents, rows-count, rows-credit, rows-debit, tallied, tally-of, with-payment};
+ghost use Rattle.houses.specs.Tallies.{one-more, place-of, rows-cents, rows-count, rows-credit, rows-debit, side-count, tallied, tally-of, with-payment};
 ghost use Rattle.records.specs.Payments.{payment-of};
 use crate::tally::Last;
 use crate::tally::Row;
@@ -89,5 +89,17 @@ impl<'a> Tally<'a> {
         ensures { λ r. ⌜ r ≡ rows-count (now (self .entry) .rows) ⌝ }
     {
         sums(&self.rows).0
+    }
+
+    // How many payments are on the side of a code.
+    pub fn side_count(&self, code: u64) -> u128
+        ensures { λ r. ⌜ r ≡ side-count (now (self .entry) .rows) code ⌝ }
+    {
+        let rows: &[Row] = &self.rows;
+        if code == 13 {
+            sums(&rows[..1]).0
+        } else {
+            sums(&rows[1..]).0
+        }
     }
 }

@@ -1,0 +1,17 @@
+use mathlib.Core.Path.{_≡_, sym, ap, _∙_}
+use mathlib.Core.List.{map}
+use Rattle.fields.specs.Kinds.{answered}
+use Rattle.fields.specs.Layouts.{or-later}
+use Rattle.fields.proofs.Answers.{passed}
+use Rattle.book.specs.Books.{rows-of, room-of, row-fault}
+use Rattle.houses.specs.Listed.{bank-of}
+use Rattle.houses.proofs.OnList.{map-either}
+use Rattle.houses.proofs.banks.list_bank.Needs as need
+
+pub returns : need.returns
+returns c =
+    let list = c .args .list .now in
+    record {
+      answer = c .add .ensures .answer ∙ sym (ap (λ o. answered (or-later o (row-fault (rows-of list) (room-of list) (c .args .number))) tt) (passed _ _ _ (c .in-Continue-judge-bank .ensures tt)));
+      after = ap (map bank-of) (c .add .ensures .after) ∙ map-either _ (rows-of list) _;
+    }
