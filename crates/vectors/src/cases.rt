@@ -6,14 +6,14 @@ use std::str::from_utf8;
 #[derive(Drop)]
 pub struct Cases<'a> {
     rest: &'a [u8],
-    line: &'a str,
+    line: &'a [u8],
 }
 
 impl<'a> Cases<'a> {
     pub fn new(stored: &'a [u8]) -> Cases<'a> {
         Cases {
             rest: stored,
-            line: "",
+            line: b"",
         }
     }
 
@@ -37,7 +37,7 @@ impl<'a> Cases<'a> {
                 break;
             }
         }
-        self.line = from_utf8(self.take(end)?)?;
+        self.line = self.take(end)?;
         if end < rest.len() {
             self.take(1)?;
         }
@@ -46,7 +46,7 @@ impl<'a> Cases<'a> {
 
     // One piece of a file, as often as the line says.
     fn piece(&mut self, file: &mut Vec<u8>) -> Result<(), AnyError> {
-        let mut words = self.line.split(' ').skip(1);
+        let mut words = from_utf8(self.line)?.split(' ').skip(1);
         let times = words.next().unwrap_or("").parse::<u64>()?;
         let length = words.next().unwrap_or("").parse::<usize>()?;
         let bytes = self.take(length)?;
@@ -57,31 +57,50 @@ impl<'a> Cases<'a> {
         Ok(())
     }
 
-    // Fills the vector with the next case's file; false where there is no case left.
-    pub fn next_file(&mut self, file: &mut Vec<u8>) -> Result<bool, AnyError> {
+    // The words that choose the next case's house, if there is a case left.
+    pub fn next_case(&mut self) -> Result<Option<&'a [u8]>, AnyError> {
         if self.rest.is_empty() {
-            return Ok(false);
+            return Ok(None);
         }
-        file.clear();
         self.next_line()?;
-        if self.line != "case plain" {
+        let line = self.line;
+        if !line.starts_with(b"case ") {
             return Err("a case does not begin with its house".into());
         }
+        Ok(Some(&line[5..]))
+    }
+
+    // Fills the vector with the case's file.
+    pub fn file(&mut self, file: &mut Vec<u8>) -> Result<(), AnyError> {
+        file.clear();
         for _ in 0..u64::MAX {
             self.next_line()?;
-            if !self.line.starts_with("piece ") {
+            if !self.line.starts_with(b"piece ") {
                 break;
             }
             self.piece(file)?;
         }
-        Ok(true)
+        Ok(())
     }
 
     // The line that ends a case.
     pub fn lines(&self) -> Result<&'a str, AnyError> {
-        if !self.line.starts_with("records ") {
+        if !self.line.starts_with(b"records") {
             return Err("a case does not end with its records".into());
         }
-        Ok(self.line)
+        Ok(from_utf8(self.line)?)
     }
+}
+
+// The words of a line, which blanks set apart.
+pub fn split_words<'a>(line: &'a [u8], words: &mut Vec<&'a [u8]>) -> Result<(), AnyError> {
+    let mut start = 0;
+    for i in 0..line.len() {
+        if line[i] == b' ' {
+            words.push(&line[start..i])?;
+            start = i + 1;
+        }
+    }
+    words.push(&line[start..])?;
+    Ok(())
 }

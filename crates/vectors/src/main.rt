@@ -2,8 +2,16 @@
 // The answers that it is held to were made by the second implementation.
 mod cases;
 
+use book::book::Book;
+use book::book::Row;
 use cases::Cases;
+use cases::split_words;
 use fields::faults::Fault;
+use houses::balanced::Balanced;
+use houses::balanced::BalancedHouse;
+use houses::house::House;
+use houses::listed::Listed;
+use houses::listed::ListedHouse;
 use houses::plain::Plain;
 use houses::plain::PlainHouse;
 use houses::tally::Tally;
@@ -22,6 +30,10 @@ use std::io::BufWriter;
 use std::io::Read;
 use std::io::Write;
 use std::str::from_utf8;
+use words::Choice;
+use words::Unmade;
+use words::choose;
+use words::list_word;
 
 const CODES: [u64; 9] = [13, 50, 51, 52, 53, 54, 55, 56, 57];
 
@@ -43,9 +55,9 @@ fn print_tally(out: &mut impl Write, tally: &Tally) -> Result<(), AnyError> {
     Ok(())
 }
 
-fn print_file(out: &mut impl Write, file: &[u8]) -> Result<(), AnyError> {
+fn print_file<H: House>(out: &mut impl Write, file: &[u8], house: &H) -> Result<(), AnyError> {
     let mut place = Summary::new();
-    match read(file, &Plain, &mut place) {
+    match read(file, house, &mut place) {
         Ok(()) => {
             let answer = Answer(Ok(place.totals));
             writeln!(out, "{answer}")?;
@@ -99,6 +111,68 @@ fn print_record(out: &mut impl Write, file: &[u8], line: usize) -> Result<(), An
     Ok(())
 }
 
+// What the house says of a file, and what its lines say by themselves.
+fn print_case<H: House>(
+    out: &mut impl Write,
+    file: &[u8],
+    lines: &str,
+    house: &H,
+) -> Result<(), AnyError> {
+    print_file(out, file, house)?;
+    for line in lines.split(' ').skip(1) {
+        print_record(out, file, line.parse::<usize>()?)?;
+    }
+    Ok(())
+}
+
+fn print_unmade(out: &mut impl Write, why: Unmade) -> Result<(), AnyError> {
+    match why {
+        Unmade::Words => Err("a case has no house".into()),
+        Unmade::Refused(fault) => {
+            let refused = Answer(Err(fault));
+            writeln!(out, "house {refused}")?;
+            Ok(())
+        }
+    }
+}
+
+fn print_listed<'w>(
+    out: &mut impl Write,
+    file: &[u8],
+    lines: &str,
+    words: &[&'w [u8]],
+) -> Result<(), AnyError> {
+    let none: &'w [u8] = b"";
+    let mut rows = [Row {
+        number: 0,
+        value: none,
+    }; 100];
+    let mut list = Book::new(&mut rows);
+    for i in 1..words.len() {
+        if let Err(why) = list_word(&mut list, words[i]) {
+            return print_unmade(out, why);
+        }
+    }
+    print_case(out, file, lines, &Listed { list: &list })
+}
+
+fn print_under(
+    out: &mut impl Write,
+    file: &[u8],
+    lines: &str,
+    words: &[&[u8]],
+) -> Result<(), AnyError> {
+    match choose(words) {
+        None => print_unmade(out, Unmade::Words),
+        Some(Choice::Plain) => print_case(out, file, lines, &Plain),
+        Some(Choice::Listed) => print_listed(out, file, lines, words),
+        Some(Choice::Balanced(bsb, account)) => match Balanced::new(bsb, account) {
+            Ok(house) => print_case(out, file, lines, &house),
+            Err(fault) => print_unmade(out, Unmade::Refused(fault)),
+        },
+    }
+}
+
 fn run(rt: &LibcRuntime) -> Result<(), AnyError> {
     let heap = rt.alloc();
     let mut stored = Vec::new(heap);
@@ -107,14 +181,14 @@ fn run(rt: &LibcRuntime) -> Result<(), AnyError> {
     let mut out = BufWriter::new(rt.stdout());
     let mut file = Vec::new(heap);
     for number in 1..u64::MAX {
-        if !cases.next_file(&mut file)? {
+        let Some(house) = cases.next_case()? else {
             break;
-        }
+        };
+        let mut words: Vec<&[u8]> = Vec::new(heap);
+        split_words(house, &mut words)?;
+        cases.file(&mut file)?;
         writeln!(out, "case {number}")?;
-        print_file(&mut out, &file)?;
-        for line in cases.lines()?.split(' ').skip(1) {
-            print_record(&mut out, &file, line.parse::<usize>()?)?;
-        }
+        print_under(&mut out, &file, cases.lines()?, &words)?;
     }
     out.flush()?;
     Ok(())
