@@ -24,7 +24,8 @@ use Rattle.records.specs.Trailers.{trailer-fault, trailer-value}
 use Rattle.houses.specs.Rules.{Rules}
 use Rattle.houses.specs.Tallies.{TallyOf, tallied, totals, apart, credits, debits}
 use Rattle.houses.proofs.Tallied.{tallied-credit, tallied-debit, tallied-count}
-use Rattle.reading.specs.Reading.{past, tally-closing, tally-totals, count-fault, totals-fault, tally-refused, after-fault, SummaryOf, closing, none-fault, summed}
+use Rattle.reading.specs.ByTally.{tally-closing, tally-totals, count-fault}
+use Rattle.reading.specs.Reading.{past, totals-fault, tally-refused, after-fault, SummaryOf, closing, none-fault, summed}
 use Rattle.reading.proofs.Openings.{verdict}
 use Rattle.reading.proofs.Steps.{refused-here, past-here}
 

@@ -14,9 +14,9 @@ use Rattle.records.specs.Trailers.{trailer-bytes}
 use Rattle.houses.specs.Rules.{Rules}
 use Rattle.houses.specs.Tallies.{totals}
 use Rattle.reading.specs.Exact.{line-of, Agreed}
-use Rattle.reading.specs.Reading.{past, objected, closing, details}
+use Rattle.reading.specs.Reading.{past, objected, closing, details, agreed, and-then}
 use Rattle.reading.proofs.Closed.{Closed, closed-admitted, closing-only, closing-all}
-use Rattle.reading.proofs.Passed.{passed, passes, no-ok, by-either, by-detail, unobjected}
+use Rattle.reading.proofs.Passed.{passed, passes, no-ok, by-either, by-detail, unobjected, went-on, same-ok}
 use Rattle.reading.proofs.Spelled.{payment-spelling, trailer-spelling}
 use Rattle.reading.proofs.Taken.{Begins, taken-admitted, taken-spelled, begins}
 
@@ -62,9 +62,12 @@ details-only R (suc left) line ps rest qs e =
     let p = payment-value (take 120 rest) in
     ⊎-elim
     (λ d.
-    let proper = passed (payment-fault line (take 120 rest)) _ qs d in
-    let agreed = passed (objected line (R .payment p)) _ qs (proper .1) in
-    listed-more R line ps rest qs (h .0) (proper .0) (unobjected line (R .payment p) (agreed .0)) (details-only R left (line + 1) (ps ++ (p ∷ [])) (drop 122 rest) qs (agreed .1)))
+    let step = went-on (agreed R line (take 120 rest)) (λ q. details R left (line + 1) (ps ++ (q ∷ [])) (drop 122 rest)) qs d in
+    let proper = passed (payment-fault line (take 120 rest)) _ (step .0) (step .1) in
+    let consent = passed (objected line (R .payment p)) _ (step .0) (proper .1) in
+    let is : p ≡ step .0 = same-ok _ _ (consent .1) in
+    listed-more R line ps rest qs (h .0) (proper .0) (unobjected line (R .payment p) (consent .0))
+    (subst (λ q. Listed R (ps ++ (q ∷ [])) (drop 122 rest) qs) (sym is) (details-only R left (line + 1) (ps ++ (step .0 ∷ [])) (drop 122 rest) qs (step .2))))
     (listed-none R line ps rest qs (h .0)) (by-either (tagged line (getD rest 0 0)) _ (closing R line ps rest) qs (h .1))
 
 -- the trailer's line; that its first byte is a trailer's computes, so the way of a detail is gone
@@ -76,12 +79,13 @@ trailer-read R line ps qs whole c =
 
 -- a payment's line, and what comes after it
 detail-read : (R : Rules) (left line : ℕ) (ps : List PaymentOf) (rest : List ℕ) (p : PaymentOf) (more : List ℕ) (qs : List PaymentOf) → Begins payment-spelling line rest p more → R .payment p ≡ None → details R left (line + 1) (ps ++ (p ∷ [])) more ≡ Ok qs → details R (suc left) line ps rest ≡ Ok qs
-detail-read R left line ps rest p more qs b agreed later =
+detail-read R left line ps rest p more qs b consent later =
+    let said : agreed R line (take 120 rest) ≡ Ok p =
+    passes (payment-fault line (take 120 rest)) _ p (b .proper)
+    (passes (objected line (R .payment (payment-value (take 120 rest)))) _ p (ap (λ q. objected line (R .payment q)) (b .says) ∙ ap (objected line) consent) (ap Ok (b .says))) in
     passes (line-fault line rest) _ qs (b .whole)
     (by-detail line (getD rest 0 0) _ _ qs (b .first)
-    (passes (payment-fault line (take 120 rest)) _ qs (b .proper)
-    (passes (objected line (R .payment (payment-value (take 120 rest)))) _ qs (ap (λ q. objected line (R .payment q)) (b .says) ∙ ap (objected line) agreed)
-    ((λ i. details R left (line + 1) (ps ++ (b .says i ∷ [])) (b .then i)) ∙ later))))
+    ((λ i. and-then (said i) (λ q. details R left (line + 1) (ps ++ (q ∷ [])) (b .then i))) ∙ later))
 
 pub details-all : (R : Rules) (left line : ℕ) (ps more qs : List PaymentOf) → length more ≤ left → ps ++ more ≡ qs → All (Agreed R) more → Closed R qs → details R left line ps (payment-lines more ++ trailer-line qs) ≡ Ok qs
 details-all R zero line ps [] qs few whole agreed c = trailer-read R line ps qs whole c

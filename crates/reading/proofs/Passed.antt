@@ -1,5 +1,5 @@
 -- A reading that comes to payments was refused nowhere on its way.
-use mathlib.Core.Path.{_≡_, refl}
+use mathlib.Core.Path.{_≡_, refl, sym, ap}
 use mathlib.Core.Logic.{_⊎_, inl, inr}
 use Prim.Native.Nat.{ℕ}
 use native.Mathlib.Omega.{arith}
@@ -12,7 +12,7 @@ use Rattle.records.specs.declared.tag.Tag.{Tag}
 use Rattle.records.specs.declared.tag.Tag.the-variants.{Detail, Trailer as IsTrailer}
 use Rattle.records.specs.Lines.{tagged}
 use Rattle.houses.specs.declared.objection.Objection.{Objection}
-use Rattle.reading.specs.Reading.{past, by-tag, objected, tally-refused}
+use Rattle.reading.specs.Reading.{past, and-then, by-tag, objected, tally-refused}
 
 module _ {X : Type 0} where
   pub same-ok : (x y : X) → _≡_ {A = Result X Fault} (Ok x) (Ok y) → x ≡ y
@@ -35,6 +35,18 @@ module _ {X : Type 0} where
 
   pub by-detail : (line byte : ℕ) (detail trailer : Result X Fault) (x : X) → byte ≡ 49 → detail ≡ Ok x → by-tag (tagged line byte) detail trailer ≡ Ok x
   by-detail line byte detail trailer x e h = rw e h
+
+-- a step that went well, and one that did not, whatever comes after it
+pub went-well : {X Y : Type 0} (r : Result X Fault) (k : X → Result Y Fault) (x : X) → Ok x ≡ r → and-then r k ≡ k x
+went-well r k x h = sym (ap (λ r. and-then r k) h)
+
+pub went-wrong : {X Y : Type 0} (r : Result X Fault) (k : X → Result Y Fault) (f : Fault) → Err f ≡ r → Err f ≡ and-then r k
+went-wrong r k f h = ap (λ r. and-then r k) h
+
+-- a step that was followed by another went well
+pub went-on : {X Y : Type 0} (r : Result X Fault) (k : X → Result Y Fault) (y : Y) → and-then r k ≡ Ok y → (x : X) × (r ≡ Ok x) × (k x ≡ Ok y)
+went-on (Ok x) k y h = (x, refl, h)
+went-on (Err f) k y h = absurd (no-ok f y h)
 
 module _ (line : ℕ) where
   pub unobjected : (o : Option Objection) → objected line o ≡ None → o ≡ None

@@ -32,10 +32,11 @@ use Rattle.records.proofs.Shapes.{payment-lawful}
 use Rattle.houses.specs.Rules.{Rules}
 use Rattle.houses.specs.Tallies.{TallyOf, tallied, with-payment}
 use Rattle.houses.proofs.Tallied.{tallied-more}
-use Rattle.reading.specs.Reading.{past, by-tag, objected, opening, agreed, details, closing, tally-closing, read-of, summed, SummaryOf}
+use Rattle.reading.specs.ByTally.{tally-closing}
+use Rattle.reading.specs.Reading.{past, and-then, by-tag, objected, opening, agreed, details, closing, read-of, summed, SummaryOf}
 use Rattle.reading.proofs.Closings.{closing-tallied, map-past}
 use Rattle.reading.proofs.Openings.{no-line-fault, columns-are, after-is, first-byte}
-use Rattle.reading.proofs.Passed.{passed, same-ok}
+use Rattle.reading.proofs.Passed.{passed, same-ok, went-well, went-wrong}
 use Rattle.reading.proofs.Spelled.{payment-spelling}
 use Rattle.reading.proofs.Taken.{taken-admitted}
 
@@ -59,42 +60,14 @@ pub record Sofar (R : Rules) (file : List ℕ) (line : ℕ) (rest : List ℕ) (t
   pub most : line ≤ 1000001
   pub sane : All Sane payments
 
--- a chain of two steps, whatever comes after it
-module _ {X Y : Type 0} (x : X) (k : X → Result Y Fault) where
-  twice : (a b : Option Fault) (y : X) → Ok y ≡ past a (past b (Ok x)) → past a (past b (k x)) ≡ k y
-  twice None None y h = ap k cc
-  twice None (Some f) y h = let z : _≡_ {A = ℕ} 0 1 = cc in absurd (omega arith)
-  twice (Some f) b y h = let z : _≡_ {A = ℕ} 0 1 = cc in absurd (omega arith)
-
-  not-twice : (a b : Option Fault) (f : Fault) → Err f ≡ past a (past b (Ok x)) → Err f ≡ past a (past b (k x))
-  not-twice None None f h = let z : _≡_ {A = ℕ} 0 1 = cc in absurd (omega arith)
-  not-twice None (Some e) f h = cc
-  not-twice (Some e) b f h = cc
-
--- a chain of four
-module _ {X Y : Type 0} (x : X) (k : X → Result Y Fault) where
-  opened : (a b c d : Option Fault) (y : X) → Ok y ≡ past a (past b (past c (past d (Ok x)))) → past a (past b (past c (past d (k x)))) ≡ k y
-  opened None None None None y h = ap k cc
-  opened None None None (Some f) y h = let z : _≡_ {A = ℕ} 0 1 = cc in absurd (omega arith)
-  opened None None (Some f) d y h = let z : _≡_ {A = ℕ} 0 1 = cc in absurd (omega arith)
-  opened None (Some f) c d y h = let z : _≡_ {A = ℕ} 0 1 = cc in absurd (omega arith)
-  opened (Some f) b c d y h = let z : _≡_ {A = ℕ} 0 1 = cc in absurd (omega arith)
-
-  not-opened : (a b c d : Option Fault) (f : Fault) → Err f ≡ past a (past b (past c (past d (Ok x)))) → Err f ≡ past a (past b (past c (past d (k x))))
-  not-opened None None None None f h = let z : _≡_ {A = ℕ} 0 1 = cc in absurd (omega arith)
-  not-opened None None None (Some e) f h = cc
-  not-opened None None (Some e) d f h = cc
-  not-opened None (Some e) c d f h = cc
-  not-opened (Some e) b c d f h = cc
-
 module _ (R : Rules) (file : List ℕ) where
   pub start-refused : (f : Fault) → Err f ≡ opening R file → Err f ≡ mapOk summed (read-of R file)
-  start-refused f h = ap (mapOk summed) (not-opened (drop 122 file) (details R 999999 2 []) (line-fault 1 file) (head-fault 1 (getD file 0 0)) (header-fault 1 (take 120 file)) (objected 1 (R .header (header-value (take 120 file)))) f h)
+  start-refused f h = ap (mapOk summed) (went-wrong (opening R file) (details R 999999 2 []) f h)
 
   pub started : (rest : List ℕ) (t : TallyOf) → Ok rest ≡ opening R file → t ≡ tallied [] → Sofar R file 2 rest t
   started rest t h e = record {
     payments = [];
-    reading = opened (drop 122 file) (details R 999999 2 []) (line-fault 1 file) (head-fault 1 (getD file 0 0)) (header-fault 1 (take 120 file)) (objected 1 (R .header (header-value (take 120 file)))) rest h;
+    reading = went-well (opening R file) (details R 999999 2 []) rest h;
     tally = e;
     count = refl;
     most = omega arith;
@@ -103,8 +76,7 @@ module _ (R : Rules) (file : List ℕ) where
 
 -- the step that a detail is
 abbrev another : Rules → ℕ → List ℕ → List PaymentOf → ℕ → Result (List PaymentOf) Fault
-another R line rest ps left =
-    past (payment-fault line (take 120 rest)) (past (objected line (R .payment (payment-value (take 120 rest)))) (details R left (line + 1) (ps ++ (payment-value (take 120 rest) ∷ [])) (drop 122 rest)))
+another R line rest ps left = and-then (agreed R line (take 120 rest)) (λ p. details R left (line + 1) (ps ++ (p ∷ [])) (drop 122 rest))
 
 -- a line, by what comes of a detail there
 abbrev at-line : Rules → ℕ → List ℕ → List PaymentOf → Result (List PaymentOf) Fault → Result (List PaymentOf) Fault
@@ -174,14 +146,14 @@ module _ (R : Rules) (file : List ℕ) (line : ℕ) (rest : List ℕ) (t : Tally
         pub detail-refused : (f : Fault) → Err f ≡ agreed R line cols → Err f ≡ mapOk summed (read-of R file)
         detail-refused f m =
             let here = subst (λ xs. _≡_ {A = Result PaymentOf Fault} (Err f) (agreed R line xs)) (columns-are line rest cols after h) m in
-            ap (mapOk summed) (not-twice (payment-value bs) next (payment-fault line bs) (objected line (R .payment (payment-value bs))) f here ∙ sym on)
+            ap (mapOk summed) (went-wrong (agreed R line bs) next f here ∙ sym on)
 
         module _ (p : PaymentOf) (m : Ok p ≡ agreed R line cols) where
           here : _≡_ {A = Result PaymentOf Fault} (Ok p) (agreed R line bs)
           here = subst (λ xs. _≡_ {A = Result PaymentOf Fault} (Ok p) (agreed R line xs)) (columns-are line rest cols after h) m
 
           goes-on : read-of R file ≡ next p
-          goes-on = on ∙ twice (payment-value bs) next (payment-fault line bs) (objected line (R .payment (payment-value bs))) p here
+          goes-on = on ∙ went-well (agreed R line bs) next p here
 
           sane-here : Sane p
           sane-here =

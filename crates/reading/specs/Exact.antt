@@ -13,7 +13,7 @@ use Rattle.records.specs.Payments.{PaymentOf, payment-wrong, payment-bytes}
 use Rattle.records.specs.Trailers.{trailer-bytes}
 use Rattle.houses.specs.Rules.{Rules}
 use Rattle.houses.specs.Tallies.{tallied, totals, credits, debits}
-use Rattle.reading.specs.Reading.{read-of, SummaryOf, summed}
+use Rattle.reading.specs.Reading.{SummaryOf, summed}
 
 -- a record is followed by CR LF
 abbrev pub line-of : List ℕ → List ℕ
@@ -43,11 +43,6 @@ pub record FileOf (R : Rules) (bytes : List ℕ) (ps : List PaymentOf) : Type 0 
   pub header : HeaderOf
   pub admissible : Admissible R header ps
   pub spelled : bytes ≡ file-of header ps
-
--- reading accepts exactly the files that there are, each with its payments
-pub record Exactly (R : Rules) (bytes : List ℕ) : Type 0 where
-  pub only : (ps : List PaymentOf) → read-of R bytes ≡ Ok ps → FileOf R bytes ps
-  pub all : (ps : List PaymentOf) → FileOf R bytes ps → read-of R bytes ≡ Ok ps
 
 -- what `read` promises in these words: it accepts exactly the files that there are, and then with their payments' summary
 pub record Exact (R : Rules) (bytes : List ℕ) (r : Result (Unit {0}) Fault) (place : SummaryOf) : Type 0 where

@@ -1,3 +1,4 @@
+pub mod ByTally
 pub mod Exact
 pub mod Reading
 pub mod Worked

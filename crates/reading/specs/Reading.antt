@@ -21,15 +21,19 @@ use Rattle.records.specs.Payments.{PaymentOf, payment-fault, payment-value}
 use Rattle.records.specs.Records.{RecordOf, a-header, a-detail, a-trailer}
 use Rattle.records.specs.Trailers.{trailer-fault, trailer-value}
 use Rattle.houses.specs.declared.objection.Objection.{Objection}
-use Rattle.houses.specs.declared.tally.Row.{Row}
 use Rattle.houses.specs.Rules.{Rules}
-use Rattle.houses.specs.Tallies.{TallyOf, tally-of, tallied, totals, apart, rows-credit, rows-debit, rows-count}
+use Rattle.houses.specs.Tallies.{TallyOf, tally-of, tallied, totals}
 use Rattle.reading.specs.declared.summary.Summary.{Summary}
 
 -- a refusal, or else what comes then
 abbrev pub past : {X : Type 0} → Option Fault → Result X Fault → Result X Fault
 past None later = later
 past (Some f) later = Err f
+
+-- what comes after a step that went well
+abbrev pub and-then : {X Y : Type 0} → Result X Fault → (X → Result Y Fault) → Result Y Fault
+and-then (Ok x) later = later x
+and-then (Err f) later = Err f
 
 -- a house's no to a header or a payment, and to a tally
 abbrev pub objected : ℕ → Option Objection → Option Fault
@@ -75,35 +79,7 @@ by-tag (Err f) detail trailer = Err f
 by-tag (Ok Detail) detail trailer = detail
 by-tag (Ok IsTrailer) detail trailer = trailer
 
--- what is left of a file after its header and some payments, where so many details may still come
-abbrev pub details : Rules → ℕ → ℕ → List PaymentOf → List ℕ → Result (List PaymentOf) Fault
-details R zero line ps rest =
-    past (line-fault line rest) (by-tag (tagged line (getD rest 0 0)) (Err (fault-at TooManyDetails line 1)) (closing R line ps rest))
-details R (suc left) line ps rest =
-    past (line-fault line rest) (by-tag (tagged line (getD rest 0 0))
-    (past (payment-fault line (take 120 rest))
-    (past (objected line (R .payment (payment-value (take 120 rest))))
-    (details R left (line + 1) (ps ++ (payment-value (take 120 rest) ∷ [])) (drop 122 rest))))
-    (closing R line ps rest))
-
--- the payments of a file, or its first fault
-abbrev pub read-of : Rules → List ℕ → Result (List PaymentOf) Fault
-read-of R bytes =
-    past (line-fault 1 bytes)
-    (past (head-fault 1 (getD bytes 0 0))
-    (past (header-fault 1 (take 120 bytes))
-    (past (objected 1 (R .header (header-value (take 120 bytes))))
-    (details R 999999 2 [] (drop 122 bytes)))))
-
--- a summary by its values
-pub record SummaryOf : Type 0 where
-  pub tally : TallyOf
-  pub totals : Trailer
-
-abbrev pub summary-of : Summary → SummaryOf
-summary-of s = record { tally = tally-of (s .tally); totals = s .totals }
-
--- line 1
+-- line 1 by what follows it, where it is a header that the house agrees to
 abbrev pub opening : Rules → List ℕ → Result (List ℕ) Fault
 opening R bytes =
     past (line-fault 1 bytes)
@@ -112,26 +88,30 @@ opening R bytes =
     (past (objected 1 (R .header (header-value (take 120 bytes))))
     (Ok (drop 122 bytes)))))
 
--- the columns of a detail
+-- the payment of a detail that the house agrees to, by its columns
 abbrev pub agreed : Rules → ℕ → List ℕ → Result PaymentOf Fault
 agreed R line bs = past (payment-fault line bs) (past (objected line (R .payment (payment-value bs))) (Ok (payment-value bs)))
 
--- the totals that a tally's rows come to
-abbrev pub tally-totals : List Row → Trailer
-tally-totals rows = record { net = apart (rows-credit rows) (rows-debit rows); credit = rows-credit rows; debit = rows-debit rows; count = rows-count rows }
+-- what is left of a file after its header and some payments, where so many details may still come
+abbrev pub details : Rules → ℕ → ℕ → List PaymentOf → List ℕ → Result (List PaymentOf) Fault
+details R zero line ps rest =
+    past (line-fault line rest) (by-tag (tagged line (getD rest 0 0)) (Err (fault-at TooManyDetails line 1)) (closing R line ps rest))
+details R (suc left) line ps rest =
+    past (line-fault line rest) (by-tag (tagged line (getD rest 0 0))
+    (and-then (agreed R line (take 120 rest)) (λ p. details R left (line + 1) (ps ++ (p ∷ [])) (drop 122 rest)))
+    (closing R line ps rest))
 
--- a tally without payments
-abbrev pub count-fault : ℕ → List Row → Option Fault
-count-fault line rows = cond (eqb (rows-count rows) 0) (Some (fault-at NoDetails line 1)) None
+-- the payments of a file, or its first fault
+abbrev pub read-of : Rules → List ℕ → Result (List PaymentOf) Fault
+read-of R bytes = and-then (opening R bytes) (details R 999999 2 [])
 
--- the columns of a trailer after a tally, and the bytes that follow it
-abbrev pub tally-closing : Rules → ℕ → TallyOf → List ℕ → List ℕ → Result SummaryOf Fault
-tally-closing R line t bs after =
-    past (trailer-fault line bs)
-    (past (count-fault line (t .rows))
-    (past (totals-fault line (trailer-value bs) (tally-totals (t .rows)))
-    (past (tally-refused line (R .tally t))
-    (past (after-fault (line + 1) after) (Ok (record { tally = t; totals = trailer-value bs }))))))
+-- a summary by its values
+pub record SummaryOf : Type 0 where
+  pub tally : TallyOf
+  pub totals : Trailer
+
+abbrev pub summary-of : Summary → SummaryOf
+summary-of s = record { tally = tally-of (s .tally); totals = s .totals }
 
 -- what some payments come to
 abbrev pub summed : List PaymentOf → SummaryOf
