@@ -41,6 +41,7 @@ pub fn list_bank<'n>(
 ) -> Result<(), Fault>
     ensures answer { λ r. ⌜ r ≡ answered (or-later (bank-wrong number (now (name .entry))) (row-fault (rows-of (now (list .entry))) (room-of (now (list .entry))) number)) tt ⌝ }
     ensures after { λ r. ⌜ map bank-of (rows-of (now (list .exit))) ≡ cond (isOk r) (map bank-of (rows-of (now (list .entry))) ++ record { number = number; name = now (name .entry) } ∷ []) (map bank-of (rows-of (now (list .entry)))) ⌝ }
+    ensures room { λ _. ⌜ room-of (now (list .exit)) ≡ room-of (now (list .entry)) ⌝ }
 {
     judge_bank(number, name)?;
     list.add(Row {

@@ -23,7 +23,7 @@ use std::io::Write;
 use words::Choice;
 use words::Unmade;
 use words::choose;
-use words::list_word;
+use words::list_banks;
 
 // The bytes of a file with 999,999 details; a longer one is refused by what stands there.
 const LARGEST: u64 = 122_000_122;
@@ -88,10 +88,8 @@ fn inspect_listed<'w>(rt: &LibcRuntime, words: &[&'w [u8]]) -> Result<bool, AnyE
         value: none,
     }; MOST_BANKS];
     let mut list = Book::new(&mut rows);
-    for i in 1..words.len() {
-        if let Err(why) = list_word(&mut list, words[i]) {
-            return say_unmade(rt, why);
-        }
+    if let Err(why) = list_banks(&mut list, words) {
+        return say_unmade(rt, why);
     }
     inspect(rt, &Listed { list: &list })
 }
@@ -111,7 +109,11 @@ fn inspect_under(rt: &LibcRuntime, words: &[&[u8]]) -> Result<bool, AnyError> {
 fn run(rt: &LibcRuntime) -> Result<bool, AnyError> {
     let heap = rt.alloc();
     let mut arguments = Vec::new(heap);
-    for argument in env::args(rt)?.skip(1) {
+    let Ok(given) = env::args(rt) else {
+        eprintln!(rt, "inspect: the arguments are not UTF-8 text")?;
+        return Ok(false);
+    };
+    for argument in given.skip(1) {
         arguments.push(argument)?;
     }
     let mut words: Vec<&[u8]> = Vec::new(heap);

@@ -33,7 +33,7 @@ use std::str::from_utf8;
 use words::Choice;
 use words::Unmade;
 use words::choose;
-use words::list_word;
+use words::list_banks;
 
 const CODES: [u64; 9] = [13, 50, 51, 52, 53, 54, 55, 56, 57];
 
@@ -148,10 +148,8 @@ fn print_listed<'w>(
         value: none,
     }; 100];
     let mut list = Book::new(&mut rows);
-    for i in 1..words.len() {
-        if let Err(why) = list_word(&mut list, words[i]) {
-            return print_unmade(out, why);
-        }
+    if let Err(why) = list_banks(&mut list, words) {
+        return print_unmade(out, why);
     }
     print_case(out, file, lines, &Listed { list: &list })
 }

@@ -67,7 +67,7 @@ fn equals_sign(word: &[u8]) -> Option<usize> {
 }
 
 // Puts a bank line, as 12=BQL, on the list.
-pub fn list_word<'w>(list: &mut Book<'_, &'w [u8]>, word: &'w [u8]) -> Result<(), Unmade> {
+fn list_word<'w>(list: &mut Book<'_, &'w [u8]>, word: &'w [u8]) -> Result<(), Unmade> {
     let Some(end) = equals_sign(word) else {
         return Err(Unmade::Words);
     };
@@ -82,4 +82,12 @@ pub fn list_word<'w>(list: &mut Book<'_, &'w [u8]>, word: &'w [u8]) -> Result<()
         Ok(()) => Ok(()),
         Err(fault) => Err(Unmade::Refused(fault)),
     }
+}
+
+// Puts the words after the first on the list, each a bank line.
+pub fn list_banks<'w>(list: &mut Book<'_, &'w [u8]>, words: &[&'w [u8]]) -> Result<(), Unmade> {
+    for i in 1..words.len() {
+        list_word(list, words[i])?;
+    }
+    Ok(())
 }

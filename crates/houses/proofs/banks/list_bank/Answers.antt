@@ -13,5 +13,6 @@ returns c =
     let list = c .args .list .now in
     record {
       answer = c .add .ensures .answer ∙ sym (ap (λ o. answered (or-later o (row-fault (rows-of list) (room-of list) (c .args .number))) tt) (passed _ _ _ (c .in-Continue-judge-bank .ensures tt)));
+      room = c .add .ensures .room;
       after = ap (map bank-of) (c .add .ensures .after) ∙ map-either _ (rows-of list) _;
     }
