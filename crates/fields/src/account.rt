@@ -92,7 +92,7 @@ pub impl<'a> FieldKind<'a> for Account as AccountField {
     fn columns(&self) -> usize
         ensures { λ r. ⌜ r ≡ 9 ⌝ }
     {
-        9
+        Self::WIDTH
     }
 
     fn scan(&self, field: &'a [u8], at: Place) -> Result<(), Fault> {

@@ -49,7 +49,7 @@ pub impl<'a> FieldKind<'a> for Bsb as BsbField {
     ghost laws = { λ _. bsb-lawful };
 
     fn columns(&self) -> usize {
-        7
+        Self::WIDTH
     }
 
     fn scan(&self, field: &'a [u8], at: Place) -> Result<(), Fault> {

@@ -35,7 +35,7 @@ pub impl<'a> FieldKind<'a> for Code as CodeField {
     ghost laws = { λ _. numeral-lawful 2 in-table NoSuchValue };
 
     fn columns(&self) -> usize {
-        2
+        Self::WIDTH
     }
 
     fn scan(&self, field: &'a [u8], at: Place) -> Result<(), Fault> {

@@ -74,7 +74,7 @@ pub impl<'a> FieldKind<'a> for Day as DayField {
     ghost laws = { λ _. date-lawful };
 
     fn columns(&self) -> usize {
-        6
+        Self::WIDTH
     }
 
     fn scan(&self, field: &'a [u8], at: Place) -> Result<(), Fault> {

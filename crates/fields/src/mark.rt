@@ -42,7 +42,7 @@ pub impl<'a> FieldKind<'a> for Mark as MarkField {
     ghost laws = { λ _. mark-lawful };
 
     fn columns(&self) -> usize {
-        1
+        Self::WIDTH
     }
 
     fn scan(&self, field: &'a [u8], at: Place) -> Result<(), Fault> {
