@@ -13,7 +13,7 @@ use Rattle.std.specs.Places.{Rises}
 use Rattle.std.proofs.shelf.Lists.{getD-append-left, getD-push, length-push}
 use Rattle.std.proofs.shelf.Tests.{lt-ltb, le-ltb, cond-true, cases-lt, ne-eqb}
 use Rattle.std.proofs.shelf.Ways.{tells}
-use Rattle.fields.specs.declared.faults.Cause.the-variants.{NotRising, BookFull}
+use Rattle.faults.specs.declared.Cause.the-variants.{NotRising, BookFull}
 use Rattle.fields.specs.Layouts.{or-later}
 use Rattle.book.specs.declared.book.Row.{Row}
 use Rattle.book.specs.Search.{Climbs, first-not-below}

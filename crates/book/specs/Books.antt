@@ -7,9 +7,9 @@ use lib.Dec.{eqb, ltb}
 use lib.ListN.{length, take, getD}
 use Rattle.std.specs.declared.option.Option.{Option}
 use Rattle.std.specs.declared.option.Option.the-variants.{Some, None}
-use Rattle.fields.specs.declared.faults.Cause.{Cause}
-use Rattle.fields.specs.declared.faults.Cause.the-variants.{NotRising, BookFull}
-use Rattle.fields.specs.declared.faults.Fault.{Fault}
+use Rattle.faults.specs.declared.Cause.{Cause}
+use Rattle.faults.specs.declared.Cause.the-variants.{NotRising, BookFull}
+use Rattle.faults.specs.declared.Fault.{Fault}
 use Rattle.fields.specs.Layouts.{or-later}
 use Rattle.book.specs.declared.book.Book.{Book}
 use Rattle.book.specs.declared.book.Row.{Row}

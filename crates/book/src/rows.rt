@@ -10,8 +10,8 @@ use crate::book::Book;
 use crate::book::Row;
 use crate::numbered::Numbered;
 use crate::numbered::search;
-use fields::faults::Cause;
-use fields::faults::Fault;
+use faults::Cause;
+use faults::Fault;
 
 pub impl<V> Numbered for Row<V> as RowNumbered {
     ghost key = { λ r. r .number };

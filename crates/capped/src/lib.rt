@@ -1,10 +1,10 @@
 // An example of a house: no payment is above a limit.
 ghost use Rattle.capped.specs.Capped.{capped-rules, capped-sound};
+use headers::Header;
 use houses::house::House;
 use houses::objection::Objection;
 use houses::tally::Tally;
-use records::header::Header;
-use records::payment::Payment;
+use payments::Payment;
 
 // The most cents that one payment may have.
 #[derive(Clone, Copy)]

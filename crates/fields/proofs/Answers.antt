@@ -6,9 +6,9 @@ use Rattle.std.specs.declared.option.Option.{Option}
 use Rattle.std.specs.declared.option.Option.the-variants.{Some, None}
 use Rattle.std.specs.declared.result.Result.{Result}
 use Rattle.std.specs.declared.result.Result.the-variants.{Ok, Err}
-use Rattle.fields.specs.declared.faults.Fault.{Fault}
-use Rattle.fields.specs.declared.faults.Place.{Place}
-use Rattle.fields.specs.Faults.{Misfit}
+use Rattle.faults.specs.declared.Fault.{Fault}
+use Rattle.faults.specs.declared.Place.{Place}
+use Rattle.faults.specs.Faults.{Misfit}
 use Rattle.fields.specs.Kinds.{answered, placedAt, mapOk}
 use Rattle.fields.specs.Layouts.{or-later}
 

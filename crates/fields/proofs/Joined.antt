@@ -8,9 +8,9 @@ use lib.ListN.{length, take, drop}
 use Rattle.std.specs.declared.option.Option.{Option}
 use Rattle.std.specs.declared.option.Option.the-variants.{Some, None}
 use Rattle.std.proofs.shelf.Lists.{take-take, drop-drop, drop-take}
-use Rattle.fields.specs.declared.faults.Fault.{Fault}
-use Rattle.fields.specs.declared.faults.Place.{Place}
-use Rattle.fields.specs.Faults.{right}
+use Rattle.faults.specs.declared.Fault.{Fault}
+use Rattle.faults.specs.declared.Place.{Place}
+use Rattle.faults.specs.Faults.{right}
 use Rattle.fields.specs.Kinds.{Kind, fault, placedAt}
 use Rattle.fields.specs.Layouts.{Row, end, then, Values, size, or-later, first-fault, values, form-fault, spelled}
 

@@ -11,10 +11,10 @@ use Rattle.std.specs.declared.option.Option.the-variants.{Some, None}
 use Rattle.std.specs.declared.result.Result.{Result}
 use Rattle.std.specs.declared.result.Result.the-variants.{Ok, Err}
 use Rattle.std.proofs.shelf.Tests.{cond-false, le-ltb}
-use Rattle.fields.specs.declared.faults.Cause.the-variants.{Empty, StrayBlank}
-use Rattle.fields.specs.declared.faults.Fault.{Fault}
-use Rattle.fields.specs.declared.faults.Place.{Place}
-use Rattle.fields.specs.Faults.{Misfit}
+use Rattle.faults.specs.declared.Cause.the-variants.{Empty, StrayBlank}
+use Rattle.faults.specs.declared.Fault.{Fault}
+use Rattle.faults.specs.declared.Place.{Place}
+use Rattle.faults.specs.Faults.{Misfit}
 use Rattle.fields.specs.Kinds.{refused-from, answered, placedAt}
 use Rattle.fields.specs.Numbers.{whole}
 use Rattle.fields.specs.Texts.{is-blank, text-end, text-flaw}

@@ -5,3 +5,4 @@ mod Judged
 pub mod Lists
 pub mod RoundTrip
 mod Scan
+pub mod Shapes

@@ -7,9 +7,9 @@ use lib.ListN.{length, take, drop, take-append-drop, length-take, length-drop, l
 use Rattle.std.specs.declared.option.Option.{Option}
 use Rattle.std.specs.declared.option.Option.the-variants.{Some, None}
 use Rattle.std.proofs.shelf.Lists.{take-at, drop-at, nil-from-length}
-use Rattle.fields.specs.declared.faults.Fault.{Fault}
-use Rattle.fields.specs.declared.faults.Place.{Place}
-use Rattle.fields.specs.Faults.{Misfit, right}
+use Rattle.faults.specs.declared.Fault.{Fault}
+use Rattle.faults.specs.declared.Place.{Place}
+use Rattle.faults.specs.Faults.{Misfit, right}
 use Rattle.fields.specs.Kinds.{Kind, Lawful, fault, placedAt}
 use Rattle.fields.specs.Layouts.{Row, end, then, Values, AllLawful, Admitted, RoundTrip, size, or-later, first-fault, values, form-fault, spelled}
 use Rattle.fields.proofs.Answers.{unplaced}

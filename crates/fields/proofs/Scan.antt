@@ -9,10 +9,10 @@ use lib.ListN.{length, drop, getD}
 use Rattle.std.specs.declared.option.Option.{Option}
 use Rattle.std.specs.declared.option.Option.the-variants.{Some, None}
 use Rattle.std.proofs.shelf.Lists.{at-drop-more, at-drop-all}
-use Rattle.fields.specs.declared.faults.Cause.the-variants.{WrongByte}
-use Rattle.fields.specs.Faults.{Misfit}
-use Rattle.fields.specs.declared.faults.Fault.{Fault}
-use Rattle.fields.specs.declared.faults.Place.{Place}
+use Rattle.faults.specs.declared.Cause.the-variants.{WrongByte}
+use Rattle.faults.specs.Faults.{Misfit}
+use Rattle.faults.specs.declared.Fault.{Fault}
+use Rattle.faults.specs.declared.Place.{Place}
 use Rattle.fields.specs.Kinds.{refused-from, placedAt}
 
 module _ (admits : ℕ → ℕ → Bool) (bs : List ℕ) (start i : ℕ) (within : i < length bs) where

@@ -5,9 +5,9 @@ use Prim.Native.Nat.{ℕ, _+_}
 use lib.ListN.{length, take, drop}
 use Rattle.std.specs.declared.option.Option.{Option}
 use Rattle.std.specs.declared.option.Option.the-variants.{Some, None}
-use Rattle.fields.specs.declared.faults.Fault.{Fault}
-use Rattle.fields.specs.declared.faults.Place.{Place}
-use Rattle.fields.specs.Faults.{right}
+use Rattle.faults.specs.declared.Fault.{Fault}
+use Rattle.faults.specs.declared.Place.{Place}
+use Rattle.faults.specs.Faults.{right}
 use Rattle.fields.specs.Kinds.{Kind, Lawful, fault, placedAt}
 
 pub data Row : Type 1 where
@@ -52,6 +52,10 @@ spelled (then k l) v = k .spell (v .0) ++ spelled l (v .1)
 abbrev pub Admitted : (l : Row) → Values l → Type 0
 Admitted end v = Unit {0}
 Admitted (then k l) v = (k .wrong (v .0) ≡ None) × Admitted l (v .1)
+
+-- the first column of a line
+abbrev pub start : ℕ → Place
+start line = record { line = line; column = 1 }
 
 -- what is read is spelled back, and what is spelled reads back
 pub record RoundTrip (l : Row) : Type 0 where

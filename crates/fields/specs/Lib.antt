@@ -1,6 +1,6 @@
-pub mod Faults
 pub mod Kinds
 pub mod Laws
 pub mod Layouts
 pub mod Numbers
+pub mod RoundTrips
 pub mod Texts

@@ -6,10 +6,10 @@ use lib.Dec.{eqb, leb, ltb}
 use lib.ListN.{length, take, drop}
 use Rattle.std.specs.declared.option.Option.{Option}
 use Rattle.std.specs.declared.option.Option.the-variants.{Some, None}
-use Rattle.fields.specs.declared.faults.Cause.{Cause}
-use Rattle.fields.specs.declared.faults.Cause.the-variants.{TooWide, Empty, NoSuchValue}
+use Rattle.faults.specs.declared.Cause.{Cause}
+use Rattle.faults.specs.declared.Cause.the-variants.{TooWide, Empty, NoSuchValue}
 use Rattle.fields.specs.declared.date.Date.{Date}
-use Rattle.fields.specs.Faults.{Misfit}
+use Rattle.faults.specs.Faults.{Misfit}
 use Rattle.fields.specs.Kinds.{Kind, AllFrom}
 
 -- the first column of a field is where it is refused as a whole

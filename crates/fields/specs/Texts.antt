@@ -8,8 +8,8 @@ use lib.ListN.{length, take, drop, getD, replicate}
 use Rattle.std.specs.declared.option.Option.{Option}
 use Rattle.std.specs.declared.option.Option.the-variants.{Some, None}
 use Rattle.std.specs.shelf.Lists.{leading}
-use Rattle.fields.specs.declared.faults.Cause.the-variants.{TooWide, WrongByte, Empty, StrayBlank}
-use Rattle.fields.specs.Faults.{Misfit}
+use Rattle.faults.specs.declared.Cause.the-variants.{TooWide, WrongByte, Empty, StrayBlank}
+use Rattle.faults.specs.Faults.{Misfit}
 use Rattle.fields.specs.Kinds.{Kind, refused-from}
 use Rattle.fields.specs.Numbers.{whole, unless, digit}
 
@@ -110,3 +110,6 @@ mark-kind = record {
   wrong = λ b. cond (member b (codes " NWXY")) None (Some (whole WrongByte));
   spell = λ b. b ∷ [];
 }
+
+abbrev pub blank : ℕ → Kind
+blank n = fixed-kind (replicate n 32)

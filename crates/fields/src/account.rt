@@ -8,10 +8,10 @@ ghost use Rattle.fields.specs.Texts.{account-kind, account-byte, account-flaw,
 ghost use Rattle.fields.specs.Laws.Accounts.{account-lawful};
 use crate::alphabet::Alphabet;
 use crate::alphabet::scan;
-use crate::faults::Cause;
-use crate::faults::Fault;
-use crate::faults::Place;
 use crate::kind::FieldKind;
+use faults::Cause;
+use faults::Fault;
+use faults::Place;
 
 // An account of nine columns, with at least one digit 1 to 9.
 #[derive(Clone, Copy)]

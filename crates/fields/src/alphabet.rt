@@ -5,9 +5,9 @@ ghost use Prim.Native.Nat.{ℕ, _+_, _<_, _^_};
 ghost use lib.ListN.{length};
 ghost use Rattle.std.specs.declared.option.Option.the-variants.{None};
 ghost use Rattle.fields.specs.Kinds.{refused-from, answered, placedAt};
-use crate::faults::Cause;
-use crate::faults::Fault;
-use crate::faults::Place;
+use faults::Cause;
+use faults::Fault;
+use faults::Place;
 
 pub trait Alphabet {
     // whether a byte may stand at a place of the field, counted from 0

@@ -4,22 +4,14 @@ ghost use Rattle.fields.specs.Laws.Dates.{bsb-lawful};
 ghost use Rattle.fields.specs.Numbers.{bsb-kind};
 use crate::alphabet::Alphabet;
 use crate::alphabet::scan;
-use crate::faults::Cause;
-use crate::faults::Fault;
-use crate::faults::Place;
-use crate::fixed::Fixed;
-use crate::fixed::FixedField;
 use crate::kind::FieldKind;
-use crate::layout::End;
-use crate::layout::EndLayout;
-use crate::layout::Layout;
-use crate::layout::Then;
-use crate::layout::ThenLayout;
 use crate::number::DigitsAlphabet;
-use crate::number::Number;
-use crate::number::NumberField;
 use crate::number::is_digit;
 use crate::number::number_of;
+use crate::number::spell_digits;
+use faults::Cause;
+use faults::Fault;
+use faults::Place;
 
 // A BSB, whose value is the number of its six digits.
 #[derive(Clone, Copy)]
@@ -68,10 +60,8 @@ pub impl<'a> FieldKind<'a> for Bsb as BsbField {
     }
 
     fn spell(&self, value: u64, out: &mut [u8]) {
-        let row = Then(
-            Number::<3, 0> {},
-            Then(Fixed::<1> { bytes: b"-" }, Then(Number::<3, 0> {}, End)),
-        );
-        row.spell((value / 1000, ((), (value % 1000, ()))), out);
+        spell_digits(value / 1000, &mut out[0..3]);
+        out[3..4].copy_from_slice(b"-");
+        spell_digits(value % 1000, &mut out[4..7]);
     }
 }

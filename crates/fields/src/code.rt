@@ -1,17 +1,17 @@
 // The transaction code: 13 is a debit, 50 to 57 are credits.
 ghost use mathlib.Core.Path.{_≡_};
-ghost use Rattle.fields.specs.declared.faults.Cause.the-variants.{NoSuchValue};
+ghost use Rattle.faults.specs.declared.Cause.the-variants.{NoSuchValue};
 ghost use Rattle.fields.specs.Laws.Numbers.{numeral-lawful};
 ghost use Rattle.fields.specs.Numbers.{code-kind, in-table};
 use crate::alphabet::scan;
-use crate::faults::Cause;
-use crate::faults::Fault;
-use crate::faults::Place;
 use crate::kind::FieldKind;
 use crate::number::Digits;
 use crate::number::DigitsAlphabet;
 use crate::number::number_of;
 use crate::number::spell_digits;
+use faults::Cause;
+use faults::Fault;
+use faults::Place;
 
 fn is_code(n: u64) -> bool
     ensures { λ r. ⌜ r ≡ in-table n ⌝ }

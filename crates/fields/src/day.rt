@@ -5,20 +5,14 @@ ghost use Rattle.fields.specs.Numbers.{date-kind, date-of, a-day, days-in, lea
 ghost use lib.ListN.{length};
 use crate::alphabet::scan;
 use crate::date::Date;
-use crate::faults::Cause;
-use crate::faults::Fault;
-use crate::faults::Place;
 use crate::kind::FieldKind;
-use crate::layout::End;
-use crate::layout::EndLayout;
-use crate::layout::Layout;
-use crate::layout::Then;
-use crate::layout::ThenLayout;
 use crate::number::Digits;
 use crate::number::DigitsAlphabet;
-use crate::number::Number;
-use crate::number::NumberField;
 use crate::number::number_of;
+use crate::number::spell_digits;
+use faults::Cause;
+use faults::Fault;
+use faults::Place;
 
 fn is_leap(year: u64) -> bool
     ensures { λ r. ⌜ r ≡ leap year ⌝ }
@@ -100,10 +94,8 @@ pub impl<'a> FieldKind<'a> for Day as DayField {
     }
 
     fn spell(&self, value: Date, out: &mut [u8]) {
-        let row = Then(
-            Number::<2, 0> {},
-            Then(Number::<2, 0> {}, Then(Number::<2, 0> {}, End)),
-        );
-        row.spell((value.day, (value.month, (value.year - 2000, ()))), out);
+        spell_digits(value.day, &mut out[0..2]);
+        spell_digits(value.month, &mut out[2..4]);
+        spell_digits(value.year - 2000, &mut out[4..6]);
     }
 }

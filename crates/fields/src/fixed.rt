@@ -6,9 +6,9 @@ ghost use Rattle.fields.specs.Laws.Fixed.{fixed-lawful};
 ghost use Rattle.fields.specs.Texts.{fixed-kind};
 use crate::alphabet::Alphabet;
 use crate::alphabet::scan;
-use crate::faults::Fault;
-use crate::faults::Place;
 use crate::kind::FieldKind;
+use faults::Fault;
+use faults::Place;
 
 // Exactly the given bytes.
 #[derive(Clone, Copy)]

@@ -7,8 +7,8 @@ ghost use lib.ListN.{length};
 ghost use Rattle.std.specs.declared.option.Option.the-variants.{Some, None};
 ghost use denote.Ref.{now};
 ghost use Rattle.fields.specs.Kinds.{Kind, Lawful, AllFrom, fault, refused-from, answered, placedAt, mapOk};
-use crate::faults::Fault;
-use crate::faults::Place;
+use faults::Fault;
+use faults::Place;
 
 // A kind of field: what may stand in it, what it means, and how a value is spelled.
 pub trait FieldKind<'a> {

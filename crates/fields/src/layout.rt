@@ -2,13 +2,13 @@
 ghost use mathlib.Core.Path.{_≡_};
 ghost use Prim.Native.Nat.{ℕ, _+_, _<_, _≤_, _^_};
 ghost use lib.ListN.{length};
-ghost use Rattle.std.specs.declared.option.Option.the-variants.{Some, None};
+ghost use Rattle.std.specs.Vec.{made};
 ghost use Rattle.fields.specs.Kinds.{answered, mapOk};
-ghost use Rattle.fields.specs.Layouts.{Row, end, then, Values, size, AllLawful, first-fault, values, form-fault, spelled, Admitted};
-use crate::faults::Fault;
-use crate::faults::Place;
+ghost use Rattle.fields.specs.Layouts.{Row, end, then, Values, size, AllLawful, first-fault, values, form-fault, spelled};
 use crate::kind::FieldKind;
 use crate::kind::take_field;
+use faults::Fault;
+use faults::Place;
 
 pub trait Layout<'a> {
     type Fields: Copy;
@@ -25,16 +25,12 @@ pub trait Layout<'a> {
         requires room { ⌜ at .column + size (row (now self)) < 2 ^ 64 ⌝ }
         ensures { λ r. ⌜ mapOk (shown (now (self .entry))) r ≡ answered (first-fault (row (now (self .entry))) at (now (bytes .entry))) (values (row (now (self .entry))) (now (bytes .entry))) ⌝ };
 
-    // What a form is refused for.
-    fn judge(&self, fields: Self::Fields, at: Place) -> Result<(), Fault>
-        requires room { ⌜ at .column + size (row (now self)) < 2 ^ 64 ⌝ }
-        ensures { λ r. ⌜ r ≡ answered (form-fault (row (now (self .entry))) at (shown (now (self .entry)) fields)) tt ⌝ };
-
-    // Writes a form's values, each in its columns.
-    fn spell(&self, fields: Self::Fields, out: &mut [u8])
+    // Writes a form's values, each in its columns, up to the first that is refused.
+    fn spell(&self, fields: Self::Fields, at: Place, out: &mut [u8]) -> Result<(), Fault>
         requires width { ⌜ length (now out) ≡ size (row (now self)) ⌝ }
-        requires admitted { ⌜ Admitted (row (now self)) (shown (now self) fields) ⌝ }
-        ensures { λ _. ⌜ now (out .exit) ≡ spelled (row (now (self .entry))) (shown (now (self .entry)) fields) ⌝ };
+        requires room { ⌜ at .column + size (row (now self)) < 2 ^ 64 ⌝ }
+        ensures answer { λ r. ⌜ r ≡ answered (form-fault (row (now (self .entry))) at (shown (now (self .entry)) fields)) tt ⌝ }
+        ensures after { λ r. ⌜ made r (λ _. now (out .exit) ≡ spelled (row (now (self .entry))) (shown (now (self .entry)) fields)) ⌝ };
 }
 
 #[derive(Clone, Copy)]
@@ -56,11 +52,9 @@ pub impl<'a> Layout<'a> for End as EndLayout {
         Ok(())
     }
 
-    fn judge(&self, fields: (), at: Place) -> Result<(), Fault> {
+    fn spell(&self, fields: (), at: Place, out: &mut [u8]) -> Result<(), Fault> {
         Ok(())
     }
-
-    fn spell(&self, fields: (), out: &mut [u8]) {}
 }
 
 pub impl<'a, K: FieldKind<'a>, L: Layout<'a>> Layout<'a> for Then<K, L> as ThenLayout {
@@ -80,14 +74,10 @@ pub impl<'a, K: FieldKind<'a>, L: Layout<'a>> Layout<'a> for Then<K, L> as ThenL
         Ok((value, others))
     }
 
-    fn judge(&self, fields: (K::Value, L::Fields), at: Place) -> Result<(), Fault> {
-        self.0.judge(fields.0, at)?;
-        self.1.judge(fields.1, at.right(self.0.columns()))
-    }
-
-    fn spell(&self, fields: (K::Value, L::Fields), out: &mut [u8]) {
+    fn spell(&self, fields: (K::Value, L::Fields), at: Place, out: &mut [u8]) -> Result<(), Fault> {
         let width = self.0.columns();
+        self.0.judge(fields.0, at)?;
         self.0.spell(fields.0, &mut out[0..width]);
-        self.1.spell(fields.1, &mut out[width..]);
+        self.1.spell(fields.1, at.right(width), &mut out[width..])
     }
 }

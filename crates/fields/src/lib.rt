@@ -5,7 +5,6 @@ pub mod bsb;
 pub mod code;
 pub mod date;
 pub mod day;
-pub mod faults;
 pub mod fixed;
 pub mod kind;
 pub mod layout;

@@ -5,10 +5,10 @@ ghost use Rattle.fields.specs.Texts.{mark-kind, member};
 ghost use Rattle.fields.specs.Laws.Texts.{mark-lawful};
 use crate::alphabet::Alphabet;
 use crate::alphabet::scan;
-use crate::faults::Cause;
-use crate::faults::Fault;
-use crate::faults::Place;
 use crate::kind::FieldKind;
+use faults::Cause;
+use faults::Fault;
+use faults::Place;
 
 #[derive(Clone, Copy)]
 pub struct Mark;

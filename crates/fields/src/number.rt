@@ -3,15 +3,15 @@ ghost use mathlib.Core.Path.{_≡_};
 ghost use Prim.Native.Nat.{ℕ, _≤_, _<_, _^_};
 ghost use lib.Dec.{leb};
 ghost use lib.ListN.{length};
-ghost use Rattle.fields.specs.declared.faults.Cause.the-variants.{Empty};
+ghost use Rattle.faults.specs.declared.Cause.the-variants.{Empty};
 ghost use Rattle.fields.specs.Laws.Numbers.{numeral-lawful};
 ghost use Rattle.fields.specs.Numbers.{number-kind, number-of, digits, AllDigits, digit};
 use crate::alphabet::Alphabet;
 use crate::alphabet::scan;
-use crate::faults::Cause;
-use crate::faults::Fault;
-use crate::faults::Place;
 use crate::kind::FieldKind;
+use faults::Cause;
+use faults::Fault;
+use faults::Place;
 
 // The number that digits write.
 pub(crate) fn number_of(bytes: &[u8]) -> u64

@@ -9,10 +9,10 @@ ghost use Rattle.fields.specs.Texts.{text-kind, text-end, text-flaw, character
 ghost use Rattle.fields.specs.Laws.Texts.{text-lawful};
 use crate::alphabet::Alphabet;
 use crate::alphabet::scan;
-use crate::faults::Cause;
-use crate::faults::Fault;
-use crate::faults::Place;
 use crate::kind::FieldKind;
+use faults::Cause;
+use faults::Fault;
+use faults::Place;
 
 // A text of W columns.
 #[derive(Clone, Copy)]

@@ -13,7 +13,7 @@ use Rattle.std.proofs.shelf.Elements.{all-weaker}
 use Rattle.std.proofs.shelf.Sums.{sumBy-cons, sumBy-push, sumBy-le, countBy-le-length}
 use Rattle.std.proofs.shelf.Ways.{tells}
 use Rattle.fields.specs.Numbers.{in-table}
-use Rattle.records.specs.Payments.{PaymentOf}
+use Rattle.payments.specs.Payments.{PaymentOf}
 use Rattle.houses.specs.declared.tally.Row.{Row}
 use Rattle.houses.specs.Tallies.{the-codes, row-for, place-of, row-added, one-more, shown-last, last-payment, tallied, with-payment, is-debit, credits, debits, rows-credit, rows-debit, rows-count}
 

@@ -9,13 +9,13 @@ use Rattle.std.specs.declared.option.Option.{Option}
 use Rattle.std.specs.declared.option.Option.the-variants.{Some, None}
 use Rattle.std.specs.Options.{orOther}
 use Rattle.std.specs.shelf.Text.{sameBytes}
-use Rattle.fields.specs.declared.faults.Fault.{Fault}
+use Rattle.faults.specs.declared.Fault.{Fault}
 use Rattle.fields.specs.Kinds.{placedAt}
 use Rattle.fields.specs.Layouts.{or-later}
 use Rattle.fields.specs.Numbers.{bsb-kind}
 use Rattle.fields.specs.Texts.{account-kind}
-use Rattle.records.specs.Headers.{HeaderOf}
-use Rattle.records.specs.Payments.{PaymentOf}
+use Rattle.headers.specs.Headers.{HeaderOf}
+use Rattle.payments.specs.Payments.{PaymentOf}
 use Rattle.houses.specs.declared.objection.Objection.{Objection}
 use Rattle.houses.specs.Rules.{Rules}
 use Rattle.houses.specs.Tallies.{LastOf, TallyOf, rows-credit, rows-debit, side-count}

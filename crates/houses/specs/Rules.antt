@@ -3,8 +3,8 @@ use mathlib.Core.Path.{_≡_}
 use Prim.Native.Nat.{ℕ, _≤_}
 use Rattle.std.specs.declared.option.Option.{Option}
 use Rattle.std.specs.declared.option.Option.the-variants.{Some, None}
-use Rattle.records.specs.Headers.{HeaderOf}
-use Rattle.records.specs.Payments.{PaymentOf}
+use Rattle.headers.specs.Headers.{HeaderOf}
+use Rattle.payments.specs.Payments.{PaymentOf}
 use Rattle.houses.specs.declared.objection.Objection.{Objection}
 use Rattle.houses.specs.Tallies.{TallyOf}
 

@@ -8,8 +8,8 @@ use Rattle.std.specs.declared.option.Option.{Option}
 use Rattle.std.specs.declared.option.Option.the-variants.{Some, None}
 use Rattle.std.specs.shelf.Lists.{sumBy, countBy}
 use Rattle.fields.specs.Numbers.{in-table}
-use Rattle.records.specs.declared.trailer.Trailer.{Trailer}
-use Rattle.records.specs.Payments.{PaymentOf}
+use Rattle.trailers.specs.declared.Trailer.{Trailer}
+use Rattle.payments.specs.Payments.{PaymentOf}
 use Rattle.houses.specs.declared.tally.Row.{Row}
 use Rattle.houses.specs.declared.tally.Last.{Last}
 use Rattle.houses.specs.declared.tally.Tally.{Tally}

@@ -10,15 +10,15 @@ use crate::bytes::same;
 use crate::house::House;
 use crate::objection::Objection;
 use crate::tally::Tally;
+use faults::Fault;
+use faults::Place;
 use fields::account::Account;
 use fields::account::AccountField;
 use fields::bsb::Bsb;
 use fields::bsb::BsbField;
-use fields::faults::Fault;
-use fields::faults::Place;
 use fields::kind::FieldKind;
-use records::header::Header;
-use records::payment::Payment;
+use headers::Header;
+use payments::Payment;
 
 // The settling BSB and account. Only `new` makes one, so that both are admitted.
 #[derive(Clone, Copy)]

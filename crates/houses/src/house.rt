@@ -1,13 +1,13 @@
 // The interface to a bank's extra rules. Run and reader are written once, over all houses.
 ghost use mathlib.Core.Path.{_≡_};
-ghost use Rattle.records.specs.Headers.{header-of};
-ghost use Rattle.records.specs.Payments.{payment-of};
+ghost use Rattle.headers.specs.Headers.{header-of};
+ghost use Rattle.payments.specs.Payments.{payment-of};
 ghost use Rattle.houses.specs.Rules.{Rules, Sound};
 ghost use Rattle.houses.specs.Tallies.{tally-of};
 use crate::objection::Objection;
 use crate::tally::Tally;
-use records::header::Header;
-use records::payment::Payment;
+use headers::Header;
+use payments::Payment;
 
 // A house is one bank's extra rules. Each question answers what its rule says of the values shown, alike each time, and alters nothing.
 pub trait House {

@@ -10,8 +10,8 @@ use crate::house::House;
 use crate::objection::Objection;
 use crate::tally::Tally;
 use book::book::Book;
-use records::header::Header;
-use records::payment::Payment;
+use headers::Header;
+use payments::Payment;
 
 #[derive(Clone, Copy)]
 pub struct Listed<'l, 'a, 'n> {

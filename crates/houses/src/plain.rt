@@ -4,8 +4,8 @@ ghost use Rattle.houses.specs.Rules.{plain-rules};
 use crate::house::House;
 use crate::objection::Objection;
 use crate::tally::Tally;
-use records::header::Header;
-use records::payment::Payment;
+use headers::Header;
+use payments::Payment;
 
 #[derive(Clone, Copy)]
 pub struct Plain;

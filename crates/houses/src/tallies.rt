@@ -2,11 +2,11 @@
 ghost use mathlib.Core.List.{[]};
 ghost use mathlib.Core.Path.{_≡_};
 ghost use Rattle.houses.specs.Tallies.{one-more, place-of, rows-cents, rows-count, rows-credit, rows-debit, side-count, tallied, tally-of, with-payment};
-ghost use Rattle.records.specs.Payments.{payment-of};
+ghost use Rattle.payments.specs.Payments.{payment-of};
 use crate::tally::Last;
 use crate::tally::Row;
 use crate::tally::Tally;
-use records::payment::Payment;
+use payments::Payment;
 
 // The place of a code's row, where the table has the code.
 fn place_of(code: u64) -> Option<usize>

@@ -5,9 +5,9 @@ use Prim.Native.Nat.{ℕ}
 use native.Mathlib.Omega.{arith}
 use Rattle.std.specs.declared.result.Result.{Result}
 use Rattle.std.specs.declared.result.Result.the-variants.{Ok, Err}
-use Rattle.fields.specs.declared.faults.Fault.{Fault}
+use Rattle.faults.specs.declared.Fault.{Fault}
 use Rattle.fields.specs.Kinds.{mapOk}
-use Rattle.records.specs.Payments.{PaymentOf}
+use Rattle.payments.specs.Payments.{PaymentOf}
 use Rattle.houses.specs.Rules.{Rules}
 use Rattle.reading.specs.Exact.{FileOf, Exact}
 use Rattle.reading.specs.Reading.{Answers, SummaryOf, summed, read-of}

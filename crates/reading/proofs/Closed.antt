@@ -10,12 +10,12 @@ use Rattle.std.proofs.shelf.Lists.{nil-from-length}
 use Rattle.std.proofs.shelf.Ways.{tells}
 use Rattle.fields.specs.Numbers.{number-kind}
 use Rattle.fields.proofs.RoundTrip.{round-trip}
-use Rattle.records.specs.declared.trailer.Trailer.{Trailer}
-use Rattle.records.specs.Headers.{start}
-use Rattle.records.specs.Lines.{line-fault}
-use Rattle.records.specs.Payments.{PaymentOf}
-use Rattle.records.specs.Trailers.{trailer-row, trailer-values, trailer-fault, trailer-value, trailer-wrong, trailer-bytes}
-use Rattle.records.proofs.Shapes.{trailer-lawful}
+use Rattle.trailers.specs.declared.Trailer.{Trailer}
+use Rattle.fields.specs.Layouts.{start}
+use Rattle.lines.specs.Lines.{line-fault}
+use Rattle.payments.specs.Payments.{PaymentOf}
+use Rattle.trailers.specs.Trailers.{trailer-row, trailer-values, trailer-fault, trailer-value, trailer-wrong, trailer-bytes}
+use Rattle.trailers.proofs.Shapes.{trailer-lawful}
 use Rattle.houses.specs.Rules.{Rules}
 use Rattle.houses.specs.Tallies.{tallied, totals, credits, debits}
 use Rattle.reading.specs.Exact.{line-of}

@@ -12,15 +12,15 @@ use Rattle.std.specs.declared.result.Result.{Result}
 use Rattle.std.specs.declared.result.Result.the-variants.{Ok, Err}
 use Rattle.std.specs.shelf.Lists.{All}
 use Rattle.std.proofs.shelf.Tests.{eqb-true}
-use Rattle.fields.specs.declared.faults.Cause.the-variants.{NoDetails}
-use Rattle.fields.specs.declared.faults.Fault.{Fault}
+use Rattle.faults.specs.declared.Cause.the-variants.{NoDetails}
+use Rattle.faults.specs.declared.Fault.{Fault}
 use Rattle.fields.specs.Kinds.{answered, mapOk}
 use Rattle.fields.specs.Numbers.{in-table}
 use Rattle.fields.proofs.Answers.{gave}
-use Rattle.records.specs.declared.trailer.Trailer.{Trailer}
-use Rattle.records.specs.Lines.{fault-at}
-use Rattle.records.specs.Payments.{PaymentOf}
-use Rattle.records.specs.Trailers.{trailer-fault, trailer-value}
+use Rattle.trailers.specs.declared.Trailer.{Trailer}
+use Rattle.faults.specs.Faults.{fault-at}
+use Rattle.payments.specs.Payments.{PaymentOf}
+use Rattle.trailers.specs.Trailers.{trailer-fault, trailer-value}
 use Rattle.houses.specs.Rules.{Rules}
 use Rattle.houses.specs.Tallies.{TallyOf, tallied, totals, apart, credits, debits}
 use Rattle.houses.proofs.Tallied.{tallied-credit, tallied-debit, tallied-count}

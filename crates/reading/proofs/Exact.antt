@@ -6,9 +6,9 @@ use lib.ListN.{take, drop, getD}
 use Rattle.std.specs.declared.option.Option.the-variants.{None}
 use Rattle.std.specs.declared.result.Result.the-variants.{Ok}
 use Rattle.std.specs.shelf.Lists.{All}
-use Rattle.records.specs.Headers.{HeaderOf, header-fault, header-value, header-bytes}
-use Rattle.records.specs.Lines.{line-fault, head-fault}
-use Rattle.records.specs.Payments.{PaymentOf}
+use Rattle.headers.specs.Headers.{HeaderOf, header-fault, header-value, header-bytes}
+use Rattle.lines.specs.Lines.{line-fault, head-fault}
+use Rattle.payments.specs.Payments.{PaymentOf}
 use Rattle.houses.specs.Rules.{Rules}
 use Rattle.reading.specs.Exact.{line-of, file-of, Agreed, Admissible, FileOf}
 use Rattle.reading.specs.Reading.{objected, details, read-of, opening}

@@ -8,9 +8,9 @@ use lib.ListN.{length, take, drop, getD}
 use Rattle.std.specs.declared.option.Option.the-variants.{None}
 use Rattle.std.specs.declared.result.Result.the-variants.{Ok}
 use Rattle.std.specs.shelf.Lists.{All, joined}
-use Rattle.records.specs.Lines.{line-fault, tagged}
-use Rattle.records.specs.Payments.{PaymentOf, payment-fault, payment-value, payment-bytes}
-use Rattle.records.specs.Trailers.{trailer-bytes}
+use Rattle.lines.specs.Lines.{line-fault, tagged}
+use Rattle.payments.specs.Payments.{PaymentOf, payment-fault, payment-value, payment-bytes}
+use Rattle.trailers.specs.Trailers.{trailer-bytes}
 use Rattle.houses.specs.Rules.{Rules}
 use Rattle.houses.specs.Tallies.{totals}
 use Rattle.reading.specs.Exact.{line-of, Agreed}

@@ -9,12 +9,12 @@ use Rattle.std.specs.declared.option.Option.the-variants.{Some, None}
 use Rattle.std.specs.declared.result.Result.{Result}
 use Rattle.std.specs.declared.result.Result.the-variants.{Ok, Err}
 use Rattle.std.proofs.shelf.Lists.{getD-take}
-use Rattle.fields.specs.declared.faults.Fault.{Fault}
+use Rattle.faults.specs.declared.Fault.{Fault}
 use Rattle.fields.specs.Kinds.{answered}
 use Rattle.fields.proofs.Answers.{passed, stopped, gave}
-use Rattle.records.specs.Headers.{HeaderOf, header-fault, header-value}
-use Rattle.records.specs.Lines.{line-fault, head-fault, cut}
-use Rattle.records.specs.Payments.{PaymentOf, payment-fault, payment-value}
+use Rattle.headers.specs.Headers.{HeaderOf, header-fault, header-value}
+use Rattle.lines.specs.Lines.{line-fault, head-fault, cut}
+use Rattle.payments.specs.Payments.{PaymentOf, payment-fault, payment-value}
 use Rattle.houses.specs.declared.objection.Objection.{Objection}
 use Rattle.houses.specs.Rules.{Rules}
 use Rattle.reading.specs.Reading.{past, objected, opening, agreed}

@@ -7,10 +7,10 @@ use Rattle.std.specs.declared.option.Option.{Option}
 use Rattle.std.specs.declared.option.Option.the-variants.{Some, None}
 use Rattle.std.specs.declared.result.Result.{Result}
 use Rattle.std.specs.declared.result.Result.the-variants.{Ok, Err}
-use Rattle.fields.specs.declared.faults.Fault.{Fault}
-use Rattle.records.specs.declared.tag.Tag.{Tag}
-use Rattle.records.specs.declared.tag.Tag.the-variants.{Detail, Trailer as IsTrailer}
-use Rattle.records.specs.Lines.{tagged}
+use Rattle.faults.specs.declared.Fault.{Fault}
+use Rattle.lines.specs.declared.Tag.{Tag}
+use Rattle.lines.specs.declared.Tag.the-variants.{Detail, Trailer as IsTrailer}
+use Rattle.lines.specs.Lines.{tagged}
 use Rattle.houses.specs.declared.objection.Objection.{Objection}
 use Rattle.reading.specs.Reading.{past, and-then, by-tag, objected, tally-refused}
 

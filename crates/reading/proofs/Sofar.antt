@@ -14,8 +14,8 @@ use Rattle.std.specs.shelf.Lists.{All}
 use Rattle.std.proofs.shelf.Elements.{all-push, all-weaker}
 use Rattle.std.proofs.shelf.Lists.{length-push}
 use Rattle.std.proofs.shelf.Tests.{ltb-true}
-use Rattle.fields.specs.declared.faults.Cause.the-variants.{TooManyDetails, TooWide, NoSuchValue, Empty}
-use Rattle.fields.specs.declared.faults.Fault.{Fault}
+use Rattle.faults.specs.declared.Cause.the-variants.{TooManyDetails, TooWide, NoSuchValue, Empty}
+use Rattle.faults.specs.declared.Fault.{Fault}
 use Rattle.fields.specs.Kinds.{answered, mapOk}
 use Rattle.fields.specs.Laws.Admitted.{unless-false}
 use Rattle.fields.specs.Laws.Numbers.{unless-none}
@@ -23,12 +23,14 @@ use Rattle.fields.specs.Layouts.{Admitted}
 use Rattle.fields.specs.Numbers.{in-table, whole, unless}
 use Rattle.fields.proofs.Answers.{passed as none-of, stopped}
 use Rattle.fields.proofs.RoundTrip.{round-trip, none-first}
-use Rattle.records.specs.declared.tag.Tag.{Tag}
-use Rattle.records.specs.declared.tag.Tag.the-variants.{Detail, Trailer as IsTrailer}
-use Rattle.records.specs.Headers.{start, header-fault, header-value}
-use Rattle.records.specs.Lines.{fault-at, line-fault, head-fault, tagged, cut}
-use Rattle.records.specs.Payments.{PaymentOf, payment-row, payment-values, payment-fault, payment-value, payment-wrong}
-use Rattle.records.proofs.Shapes.{payment-lawful}
+use Rattle.lines.specs.declared.Tag.{Tag}
+use Rattle.lines.specs.declared.Tag.the-variants.{Detail, Trailer as IsTrailer}
+use Rattle.fields.specs.Layouts.{start}
+use Rattle.headers.specs.Headers.{header-fault, header-value}
+use Rattle.faults.specs.Faults.{fault-at}
+use Rattle.lines.specs.Lines.{line-fault, head-fault, tagged, cut}
+use Rattle.payments.specs.Payments.{PaymentOf, payment-row, payment-values, payment-fault, payment-value, payment-wrong}
+use Rattle.payments.proofs.Shapes.{payment-lawful}
 use Rattle.houses.specs.Rules.{Rules}
 use Rattle.houses.specs.Tallies.{TallyOf, tallied, with-payment}
 use Rattle.houses.proofs.Tallied.{tallied-more}

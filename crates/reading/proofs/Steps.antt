@@ -9,11 +9,11 @@ use Rattle.std.specs.declared.option.Option.the-variants.{Some, None}
 use Rattle.std.specs.declared.result.Result.{Result}
 use Rattle.std.specs.declared.result.Result.the-variants.{Ok, Err}
 use Rattle.std.proofs.shelf.Lists.{drop-all}
-use Rattle.fields.specs.declared.faults.Fault.{Fault}
+use Rattle.faults.specs.declared.Fault.{Fault}
 use Rattle.fields.specs.Kinds.{answered, mapOk}
 use Rattle.fields.proofs.Answers.{passed, stopped, gave}
-use Rattle.records.specs.declared.tag.Tag.{Tag}
-use Rattle.records.specs.declared.tag.Tag.the-variants.{Detail, Trailer as IsTrailer}
+use Rattle.lines.specs.declared.Tag.{Tag}
+use Rattle.lines.specs.declared.Tag.the-variants.{Detail, Trailer as IsTrailer}
 use Rattle.reading.specs.Reading.{past, by-tag, rest-at}
 
 module _ {V X : Type 0} (o : Option Fault) (v : V) (later : Result X Fault) where

@@ -8,9 +8,9 @@ use Rattle.std.specs.declared.option.Option.{Option}
 use Rattle.std.specs.declared.option.Option.the-variants.{None}
 use Rattle.std.proofs.shelf.Lists.{take-at, drop-at, drop-more, getD-at, getD-append-left, getD-append-right, length-take-le}
 use Rattle.std.proofs.shelf.Ways.{tells}
-use Rattle.fields.specs.declared.faults.Fault.{Fault}
-use Rattle.records.specs.Lines.{line-fault}
-use Rattle.records.proofs.LineEnds.{line-proper}
+use Rattle.faults.specs.declared.Fault.{Fault}
+use Rattle.lines.specs.Lines.{line-fault}
+use Rattle.lines.proofs.LineEnds.{line-proper}
 use Rattle.reading.specs.Exact.{line-of}
 use Rattle.reading.proofs.Spelled.{Spelling}
 

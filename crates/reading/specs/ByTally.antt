@@ -7,11 +7,11 @@ use Rattle.std.specs.declared.option.Option.{Option}
 use Rattle.std.specs.declared.option.Option.the-variants.{Some, None}
 use Rattle.std.specs.declared.result.Result.{Result}
 use Rattle.std.specs.declared.result.Result.the-variants.{Ok}
-use Rattle.fields.specs.declared.faults.Cause.the-variants.{NoDetails}
-use Rattle.fields.specs.declared.faults.Fault.{Fault}
-use Rattle.records.specs.declared.trailer.Trailer.{Trailer}
-use Rattle.records.specs.Lines.{fault-at}
-use Rattle.records.specs.Trailers.{trailer-fault, trailer-value}
+use Rattle.faults.specs.declared.Cause.the-variants.{NoDetails}
+use Rattle.faults.specs.declared.Fault.{Fault}
+use Rattle.trailers.specs.declared.Trailer.{Trailer}
+use Rattle.faults.specs.Faults.{fault-at}
+use Rattle.trailers.specs.Trailers.{trailer-fault, trailer-value}
 use Rattle.houses.specs.declared.tally.Row.{Row}
 use Rattle.houses.specs.Rules.{Rules}
 use Rattle.houses.specs.Tallies.{TallyOf, apart, rows-credit, rows-debit, rows-count}

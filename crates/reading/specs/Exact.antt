@@ -7,10 +7,10 @@ use Rattle.std.specs.declared.option.Option.the-variants.{None}
 use Rattle.std.specs.declared.result.Result.{Result}
 use Rattle.std.specs.declared.result.Result.the-variants.{Ok}
 use Rattle.std.specs.shelf.Lists.{All, joined}
-use Rattle.fields.specs.declared.faults.Fault.{Fault}
-use Rattle.records.specs.Headers.{HeaderOf, header-wrong, header-bytes}
-use Rattle.records.specs.Payments.{PaymentOf, payment-wrong, payment-bytes}
-use Rattle.records.specs.Trailers.{trailer-bytes}
+use Rattle.faults.specs.declared.Fault.{Fault}
+use Rattle.headers.specs.Headers.{HeaderOf, header-wrong, header-bytes}
+use Rattle.payments.specs.Payments.{PaymentOf, payment-wrong, payment-bytes}
+use Rattle.trailers.specs.Trailers.{trailer-bytes}
 use Rattle.houses.specs.Rules.{Rules}
 use Rattle.houses.specs.Tallies.{tallied, totals, credits, debits}
 use Rattle.reading.specs.Reading.{SummaryOf, summed}

@@ -1,4 +1,5 @@
 pub mod ByTally
 pub mod Exact
 pub mod Reading
+pub mod Records
 pub mod Worked

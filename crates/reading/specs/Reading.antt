@@ -9,17 +9,18 @@ use Rattle.std.specs.declared.option.Option.{Option}
 use Rattle.std.specs.declared.option.Option.the-variants.{Some, None}
 use Rattle.std.specs.declared.result.Result.{Result}
 use Rattle.std.specs.declared.result.Result.the-variants.{Ok, Err}
-use Rattle.fields.specs.declared.faults.Cause.the-variants.{TooManyDetails, HouseRefused, NoDetails, WrongTotal, TallyRefused, BytesAfter}
-use Rattle.fields.specs.declared.faults.Fault.{Fault}
+use Rattle.faults.specs.declared.Cause.the-variants.{TooManyDetails, HouseRefused, NoDetails, WrongTotal, TallyRefused, BytesAfter}
+use Rattle.faults.specs.declared.Fault.{Fault}
 use Rattle.fields.specs.Kinds.{answered}
-use Rattle.records.specs.declared.tag.Tag.{Tag}
-use Rattle.records.specs.declared.tag.Tag.the-variants.{Detail, Trailer as IsTrailer}
-use Rattle.records.specs.declared.trailer.Trailer.{Trailer}
-use Rattle.records.specs.Headers.{header-fault, header-value}
-use Rattle.records.specs.Lines.{fault-at, line-fault, head-fault, tagged}
-use Rattle.records.specs.Payments.{PaymentOf, payment-fault, payment-value}
-use Rattle.records.specs.Records.{RecordOf, a-header, a-detail, a-trailer}
-use Rattle.records.specs.Trailers.{trailer-fault, trailer-value}
+use Rattle.lines.specs.declared.Tag.{Tag}
+use Rattle.lines.specs.declared.Tag.the-variants.{Detail, Trailer as IsTrailer}
+use Rattle.trailers.specs.declared.Trailer.{Trailer}
+use Rattle.headers.specs.Headers.{header-fault, header-value}
+use Rattle.faults.specs.Faults.{fault-at}
+use Rattle.lines.specs.Lines.{line-fault, head-fault, tagged}
+use Rattle.payments.specs.Payments.{PaymentOf, payment-fault, payment-value}
+use Rattle.reading.specs.Records.{RecordOf, a-header, a-detail, a-trailer}
+use Rattle.trailers.specs.Trailers.{trailer-fault, trailer-value}
 use Rattle.houses.specs.declared.objection.Objection.{Objection}
 use Rattle.houses.specs.Rules.{Rules}
 use Rattle.houses.specs.Tallies.{TallyOf, tally-of, tallied, totals}

@@ -10,10 +10,10 @@ use Rattle.std.specs.declared.option.Option.the-variants.{Some, None}
 use Rattle.std.specs.declared.result.Result.{Result}
 use Rattle.std.specs.declared.result.Result.the-variants.{Ok, Err}
 use Rattle.fields.specs.declared.date.Date.{Date}
-use Rattle.fields.specs.declared.faults.Fault.{Fault}
-use Rattle.fields.specs.Faults.{number}
-use Rattle.records.specs.Headers.{header-fault, header-value}
-use Rattle.records.specs.Payments.{payment-fault, payment-value}
+use Rattle.faults.specs.declared.Fault.{Fault}
+use Rattle.faults.specs.Faults.{number}
+use Rattle.headers.specs.Headers.{header-fault, header-value}
+use Rattle.payments.specs.Payments.{payment-fault, payment-value}
 use Rattle.houses.specs.Rules.{Rules}
 use Rattle.reading.specs.Reading.{read-of}
 

@@ -2,27 +2,27 @@
 ghost use mathlib.Core.Path.{_≡_};
 ghost use mathlib.Core.List.{List};
 ghost use Prim.Native.Nat.{_≤_};
-ghost use Rattle.fields.specs.declared.faults.Cause.the-variants.{WrongTotal};
+ghost use Rattle.faults.specs.declared.Cause.the-variants.{WrongTotal};
 ghost use Rattle.fields.specs.Kinds.{answered, mapOk};
-ghost use Rattle.records.specs.Lines.{fault-at};
-ghost use Rattle.records.specs.Payments.{payment-of};
+ghost use Rattle.faults.specs.Faults.{fault-at};
+ghost use Rattle.payments.specs.Payments.{payment-of};
 ghost use Rattle.houses.specs.Tallies.{tally-of};
 ghost use Rattle.reading.specs.Exact.{Exact};
 ghost use Rattle.reading.specs.ByTally.{count-fault, tally-totals, tally-closing};
 ghost use Rattle.reading.specs.Reading.{Answers, tally-refused, after-fault, objected, opening, agreed, totals-fault, summary-of, summed, read-of};
 use crate::summary::Summary;
-use fields::faults::Cause;
-use fields::faults::Fault;
+use faults::Cause;
+use faults::Fault;
+use headers::Header;
 use houses::house::House;
 use houses::objection::Objection;
 use houses::tally::Tally;
-use records::header::Header;
-use records::lines::cut_line;
-use records::lines::expect_header;
-use records::lines::tag;
-use records::payment::Payment;
-use records::tag::Tag;
-use records::trailer::Trailer;
+use lines::Tag;
+use lines::cut_line;
+use lines::expect_header;
+use lines::expect_later;
+use payments::Payment;
+use trailers::Trailer;
 
 // The most details that a file may have are on the lines up to this one.
 const LAST_DETAIL: usize = 1_000_000;
@@ -167,7 +167,7 @@ fn summarize<'a, H: House>(file: &'a [u8], house: &H) -> Result<Summary<'a>, Fau
     let mut line = 2;
     loop {
         let (columns, after) = cut_line(rest, line)?;
-        match tag(columns, line)? {
+        match expect_later(columns, line)? {
             Tag::Trailer => return close(columns, after, line, tally, house),
             Tag::Detail => {
                 if line > LAST_DETAIL {

@@ -1,18 +1,18 @@
 // One record of a file, by its line.
 ghost use mathlib.Core.Path.{_≡_};
 ghost use Rattle.fields.specs.Kinds.{mapOk};
-ghost use Rattle.records.specs.Records.{record-of};
+ghost use Rattle.reading.specs.Records.{record-of};
 ghost use Rattle.reading.specs.Worked.{Worked};
 ghost use Rattle.reading.specs.Reading.{rest-at, first-at, later-at, record-at};
-use fields::faults::Fault;
-use records::header::Header;
-use records::lines::cut_line;
-use records::lines::expect_header;
-use records::lines::tag;
-use records::payment::Payment;
-use records::record::Record;
-use records::tag::Tag;
-use records::trailer::Trailer;
+use crate::records::Record;
+use faults::Fault;
+use headers::Header;
+use lines::Tag;
+use lines::cut_line;
+use lines::expect_header;
+use lines::expect_later;
+use payments::Payment;
+use trailers::Trailer;
 
 // The bytes of a file from a line on. No product of line and 122 wraps.
 fn rest_at(file: &[u8], line: usize) -> &[u8]
@@ -42,7 +42,7 @@ fn first_record(columns: &[u8; 120], line: usize) -> Result<Record, Fault>
 fn later_record(columns: &[u8; 120], line: usize) -> Result<Record, Fault>
     ensures { λ r. ⌜ mapOk record-of r ≡ later-at line (now (columns .entry)) ⌝ }
 {
-    match tag(columns, line)? {
+    match expect_later(columns, line)? {
         Tag::Detail => {
             let payment = Payment::read(columns, line)?;
             Ok(Record::Detail(payment))

@@ -4,7 +4,7 @@ ghost use mathlib.Core.Path.{_≡_};
 ghost use Rattle.reading.specs.Reading.{summary-of, summed};
 use crate::summary::Summary;
 use houses::tally::Tally;
-use records::trailer::Trailer;
+use trailers::Trailer;
 
 impl<'a> Summary<'a> {
     // What no payments come to.

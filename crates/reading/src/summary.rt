@@ -1,6 +1,6 @@
 // What an accepted file comes to.
 use houses::tally::Tally;
-use records::trailer::Trailer;
+use trailers::Trailer;
 
 // The tally of a file's payments, and their totals.
 #[derive(Clone, Copy)]

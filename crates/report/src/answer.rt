@@ -1,9 +1,9 @@
 // What reading a file answers, as one line.
-use fields::faults::Cause;
-use fields::faults::Fault;
-use fields::faults::Layer;
-use records::trailer::Trailer;
+use faults::Cause;
+use faults::Fault;
+use faults::Layer;
 use std::fmt;
+use trailers::Trailer;
 
 // The totals of an accepted file, or why it was refused.
 #[derive(Clone, Copy)]

@@ -1,11 +1,11 @@
 // A record as one line, its values set apart by tabs.
 use fields::date::Date;
-use records::header::Header;
-use records::payment::Payment;
-use records::record::Record;
-use records::trailer::Trailer;
+use headers::Header;
+use payments::Payment;
+use reading::records::Record;
 use std::fmt;
 use std::str::from_utf8;
+use trailers::Trailer;
 
 // What a line of a file says.
 #[derive(Clone, Copy)]

@@ -10,7 +10,7 @@ pub struct Cases<'a> {
 }
 
 impl<'a> Cases<'a> {
-    pub fn new(stored: &'a [u8]) -> Cases<'a> {
+    pub(crate) fn new(stored: &'a [u8]) -> Cases<'a> {
         Cases {
             rest: stored,
             line: b"",
@@ -58,7 +58,7 @@ impl<'a> Cases<'a> {
     }
 
     // The words that choose the next case's house, if there is a case left.
-    pub fn next_case(&mut self) -> Result<Option<&'a [u8]>, AnyError> {
+    pub(crate) fn next_case(&mut self) -> Result<Option<&'a [u8]>, AnyError> {
         if self.rest.is_empty() {
             return Ok(None);
         }
@@ -71,7 +71,7 @@ impl<'a> Cases<'a> {
     }
 
     // Fills the vector with the case's file.
-    pub fn file(&mut self, file: &mut Vec<u8>) -> Result<(), AnyError> {
+    pub(crate) fn file(&mut self, file: &mut Vec<u8>) -> Result<(), AnyError> {
         file.clear();
         for _ in 0..u64::MAX {
             self.next_line()?;
@@ -84,7 +84,7 @@ impl<'a> Cases<'a> {
     }
 
     // The line that ends a case.
-    pub fn lines(&self) -> Result<&'a str, AnyError> {
+    pub(crate) fn lines(&self) -> Result<&'a str, AnyError> {
         if !self.line.starts_with(b"records") {
             return Err("a case does not end with its records".into());
         }
@@ -93,7 +93,7 @@ impl<'a> Cases<'a> {
 }
 
 // The words of a line, which blanks set apart.
-pub fn split_words<'a>(line: &'a [u8], words: &mut Vec<&'a [u8]>) -> Result<(), AnyError> {
+pub(crate) fn split_words<'a>(line: &'a [u8], words: &mut Vec<&'a [u8]>) -> Result<(), AnyError> {
     let mut start = 0;
     for i in 0..line.len() {
         if line[i] == b' ' {

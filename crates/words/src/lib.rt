@@ -1,6 +1,6 @@
 // A house chosen by words, as on a command line.
 use book::book::Book;
-use fields::faults::Fault;
+use faults::Fault;
 use houses::banks::list_bank;
 
 // A house and what it is made from, as the words say it.

@@ -10,8 +10,8 @@ use Rattle.std.specs.shelf.Lists.{All}
 use Rattle.std.proofs.shelf.Lists.{length-take-le}
 use Rattle.std.specs.declared.option.Option.{Option}
 use Rattle.std.specs.declared.option.Option.the-variants.{Some, None}
-use Rattle.fields.specs.declared.faults.Cause.the-variants.{WrongByte}
-use Rattle.fields.specs.Faults.{Misfit}
+use Rattle.faults.specs.declared.Cause.the-variants.{WrongByte}
+use Rattle.faults.specs.Faults.{Misfit}
 use Rattle.fields.specs.Kinds.{refused-from, AllFrom}
 
 pub all-admitted : (admits : ℕ → ℕ → Bool) (i : ℕ) (bs : List ℕ) (later : Option Misfit) → AllFrom admits i bs → refused-from admits i bs later ≡ later

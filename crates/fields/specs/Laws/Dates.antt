@@ -11,8 +11,8 @@ use Rattle.std.specs.declared.option.Option.the-variants.{Some, None}
 use Rattle.std.proofs.shelf.Lists.{drop-more, drop-drop, take-all}
 use Rattle.std.proofs.shelf.Tests.{and-from, and-parts, le-leb, leb-true, lt-ltb, ltb-true, eqb-true, ne-eqb, cond-both, cond-true}
 use Rattle.fields.specs.declared.date.Date.{Date}
-use Rattle.fields.specs.declared.faults.Cause.the-variants.{TooWide, NoSuchValue}
-use Rattle.fields.specs.Faults.{Misfit}
+use Rattle.faults.specs.declared.Cause.the-variants.{TooWide, NoSuchValue}
+use Rattle.faults.specs.Faults.{Misfit}
 use Rattle.fields.specs.Kinds.{Kind, Lawful, AllFrom, refused-from, fault}
 use Rattle.fields.specs.Numbers.{unless, digit, number-of, digits, bsb-kind, date-kind, date-of, a-day, days-in, leap, AllDigits}
 use Rattle.fields.specs.Laws.Admitted.{all-admitted, none-refused, all-append, all-weaker, all-at, all-part, unless-false}

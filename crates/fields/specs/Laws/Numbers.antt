@@ -12,8 +12,8 @@ use Rattle.std.specs.declared.option.Option.{Option}
 use Rattle.std.specs.declared.option.Option.the-variants.{Some, None}
 use Rattle.std.proofs.shelf.Lists.{take-more, take-all, length-take-le, drop-set, append-assoc}
 use Rattle.std.proofs.shelf.Tests.{and-from, and-parts, le-leb, leb-true, lt-ltb, ltb-true}
-use Rattle.fields.specs.declared.faults.Cause.{Cause}
-use Rattle.fields.specs.Faults.{Misfit}
+use Rattle.faults.specs.declared.Cause.{Cause}
+use Rattle.faults.specs.Faults.{Misfit}
 use Rattle.fields.specs.Kinds.{Kind, Lawful, AllFrom, refused-from}
 use Rattle.fields.specs.Numbers.{whole, unless, digit, number-from, number-of, digits, numeral, AllDigits}
 use Rattle.fields.specs.Laws.Admitted.{all-admitted, none-refused, all-append, all-left, all-right, unless-false}

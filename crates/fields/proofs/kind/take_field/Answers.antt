@@ -5,8 +5,8 @@ use Rattle.std.specs.declared.result.Result.{Result}
 use Rattle.std.specs.declared.result.Result.the-variants.{Ok}
 use Rattle.std.proofs.shelf.Results.{err-from-errBy}
 use Rattle.std.specs.declared.option.Option.the-variants.{None}
-use Rattle.fields.specs.declared.faults.Fault.{Fault}
-use Rattle.fields.specs.declared.faults.Place.{Place}
+use Rattle.faults.specs.declared.Fault.{Fault}
+use Rattle.faults.specs.declared.Place.{Place}
 use Rattle.fields.specs.Kinds.{Kind, AllFrom, refused-from, answered, placedAt}
 use Rattle.fields.specs.Laws.Admitted.{all-admitted, none-refused}
 use Rattle.fields.proofs.Answers.{passed, stopped, unplaced}

@@ -1,5 +1,5 @@
 use Rattle.std.proofs.shelf.Results.{err-from-errBy}
-use Rattle.records.specs.Payments.{payment-of}
+use Rattle.payments.specs.Payments.{payment-of}
 use Rattle.reading.proofs.Openings.{bad-payment, payment-refused, payment-taken}
 use Rattle.reading.proofs.read.agree.Needs as need
 

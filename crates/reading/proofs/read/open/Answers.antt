@@ -1,7 +1,7 @@
 use mathlib.Core.Path.{_∙_}
 use Rattle.std.proofs.shelf.Results.{err-from-errBy}
-use Rattle.records.specs.Headers.{header-of}
-use Rattle.records.specs.Lines.{line-fault, cut}
+use Rattle.headers.specs.Headers.{header-of}
+use Rattle.lines.specs.Lines.{line-fault, cut}
 use Rattle.reading.proofs.Steps.{refused-here}
 use Rattle.reading.proofs.Openings.{not-a-header, bad-header, header-refused, header-taken}
 use Rattle.reading.proofs.read.open.Needs as need

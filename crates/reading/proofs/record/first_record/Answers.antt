@@ -3,9 +3,9 @@ use lib.ListN.{getD}
 use Rattle.std.proofs.shelf.Results.{err-from-errBy}
 use Rattle.fields.specs.Kinds.{answered}
 use Rattle.fields.proofs.Answers.{refused, carried}
-use Rattle.records.specs.Headers.{header-fault, header-value}
-use Rattle.records.specs.Lines.{head-fault}
-use Rattle.records.specs.Records.{a-header}
+use Rattle.headers.specs.Headers.{header-fault, header-value}
+use Rattle.lines.specs.Lines.{head-fault}
+use Rattle.reading.specs.Records.{a-header}
 use Rattle.reading.proofs.Steps.{past-here}
 use Rattle.reading.proofs.record.first_record.Needs as need
 

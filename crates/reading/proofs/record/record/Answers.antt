@@ -8,8 +8,8 @@ use Rattle.std.proofs.shelf.Results.{err-from-errBy}
 use Rattle.std.proofs.shelf.Tests.{eq-eqb, ne-eqb, cond-true, cond-false}
 use Rattle.fields.specs.Kinds.{answered, mapOk}
 use Rattle.fields.proofs.Answers.{gave}
-use Rattle.records.specs.Lines.{line-fault, cut}
-use Rattle.records.specs.Records.{record-of}
+use Rattle.lines.specs.Lines.{line-fault, cut}
+use Rattle.reading.specs.Records.{record-of}
 use Rattle.reading.specs.Reading.{rest-at, first-at, later-at, record-at}
 use Rattle.reading.proofs.Worked.{worked}
 use Rattle.reading.proofs.Steps.{refused-here, past-here}

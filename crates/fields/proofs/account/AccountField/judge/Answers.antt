@@ -2,7 +2,7 @@ use mathlib.Core.Path.{sym, ap, _∙_}
 use Prim.Native.Nat.{_-_}
 use lib.ListN.{length}
 use Rattle.std.proofs.shelf.Results.{err-from-errBy}
-use Rattle.fields.specs.declared.faults.Cause.the-variants.{TooWide}
+use Rattle.faults.specs.declared.Cause.the-variants.{TooWide}
 use Rattle.fields.specs.Numbers.{whole}
 use Rattle.fields.specs.Texts.{account-byte, account-flaw}
 use Rattle.fields.proofs.Judged.{reply, by-byte, past-bytes}

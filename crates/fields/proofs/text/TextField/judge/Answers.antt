@@ -4,7 +4,7 @@ use Rattle.std.specs.declared.option.Option.the-variants.{None}
 use Rattle.std.specs.declared.result.Result.the-variants.{Err}
 use Rattle.std.proofs.shelf.Results.{err-from-errBy}
 use Rattle.std.proofs.shelf.Tests.{cond-true, eq-eqb}
-use Rattle.fields.specs.declared.faults.Cause.the-variants.{TooWide}
+use Rattle.faults.specs.declared.Cause.the-variants.{TooWide}
 use Rattle.fields.specs.Numbers.{whole}
 use Rattle.fields.specs.Texts.{character, text-flaw, ends-blank}
 use Rattle.fields.specs.Laws.Texts.{flaw-parts, flaw-later}

@@ -1,3 +1,0 @@
-pub mod LineEnds
-mod Parts
-pub mod Shapes

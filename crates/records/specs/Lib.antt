@@ -1,6 +1,0 @@
-pub mod Headers
-pub mod Lines
-pub mod Payments
-pub mod Records
-pub mod RoundTrips
-pub mod Trailers

@@ -1,0 +1,51 @@
+// The columns of a trailer.
+use fields::fixed::Fixed;
+use fields::layout::End;
+use fields::layout::Then;
+use fields::number::Number;
+
+// columns 21 to 120 of a trailer
+type TrailerEnd = Then<
+    Number<10, 0>,
+    Then<
+        Number<10, 0>,
+        Then<Number<10, 0>, Then<Fixed<24>, Then<Number<6, 0>, Then<Fixed<40>, End>>>>,
+    >,
+>;
+
+pub(crate) type TrailerLayout = Then<Fixed<1>, Then<Fixed<7>, Then<Fixed<12>, TrailerEnd>>>;
+
+pub(crate) const TRAILER: TrailerLayout = Then(
+    Fixed { bytes: b"7" },
+    Then(
+        Fixed { bytes: b"999-999" },
+        Then(
+            Fixed {
+                bytes: b"            ",
+            },
+            Then(
+                Number {},
+                Then(
+                    Number {},
+                    Then(
+                        Number {},
+                        Then(
+                            Fixed {
+                                bytes: b"                        ",
+                            },
+                            Then(
+                                Number {},
+                                Then(
+                                    Fixed {
+                                        bytes: b"                                        ",
+                                    },
+                                    End,
+                                ),
+                            ),
+                        ),
+                    ),
+                ),
+            ),
+        ),
+    ),
+);
