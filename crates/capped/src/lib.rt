@@ -3,7 +3,7 @@ ghost use Rattle.capped.specs.Capped.{capped-rules, capped-sound};
 use headers::Header;
 use houses::house::House;
 use houses::objection::Objection;
-use houses::tally::Tally;
+use tally::Tally;
 use payments::Payment;
 
 // The most cents that one payment may have.

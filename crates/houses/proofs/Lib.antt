@@ -1,2 +1,1 @@
-pub mod Tallied
 mod OnList

@@ -18,7 +18,7 @@ use Rattle.headers.specs.Headers.{HeaderOf}
 use Rattle.payments.specs.Payments.{PaymentOf}
 use Rattle.houses.specs.declared.objection.Objection.{Objection}
 use Rattle.houses.specs.Rules.{Rules}
-use Rattle.houses.specs.Tallies.{LastOf, TallyOf, rows-credit, rows-debit, side-count}
+use Rattle.tally.specs.Tallies.{LastOf, TallyOf, rows-credit, rows-debit, side-count}
 
 -- what a settling BSB and account are refused for, as in a form
 abbrev pub balanced-wrong : ℕ → List ℕ → Option Fault

@@ -18,7 +18,7 @@ use Rattle.fields.specs.Texts.{text-kind}
 use Rattle.houses.specs.Balanced.{balanced-rules, balanced-last, in-text, semicolon, settles}
 use Rattle.houses.specs.Listed.{BankOf, listed-rules, named, numbered, bank-digits}
 use Rattle.houses.specs.Rules.{Sensible, Sound, plain-rules}
-use Rattle.houses.specs.Tallies.{LastOf, TallyOf, rows-credit, rows-debit, side-count}
+use Rattle.tally.specs.Tallies.{LastOf, TallyOf, rows-credit, rows-debit, side-count}
 
 -- where an answer is a no, what it says has a property
 module _ {A : Type 0} (P : A → Type 0) where

@@ -2,4 +2,3 @@ pub mod Balanced
 pub mod Laws
 pub mod Listed
 pub mod Rules
-pub mod Tallies

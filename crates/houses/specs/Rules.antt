@@ -6,7 +6,7 @@ use Rattle.std.specs.declared.option.Option.the-variants.{Some, None}
 use Rattle.headers.specs.Headers.{HeaderOf}
 use Rattle.payments.specs.Payments.{PaymentOf}
 use Rattle.houses.specs.declared.objection.Objection.{Objection}
-use Rattle.houses.specs.Tallies.{TallyOf}
+use Rattle.tally.specs.Tallies.{TallyOf}
 
 -- the objection to a header or a payment, or the reason against a tally; None is a yes
 pub record Rules : Type 0 where

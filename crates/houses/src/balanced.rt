@@ -9,7 +9,7 @@ ghost use Rattle.houses.specs.Laws.{balanced-sound};
 use crate::bytes::same;
 use crate::house::House;
 use crate::objection::Objection;
-use crate::tally::Tally;
+use tally::Tally;
 use faults::Fault;
 use faults::Place;
 use fields::account::Account;

@@ -3,9 +3,9 @@ ghost use mathlib.Core.Path.{_≡_};
 ghost use Rattle.headers.specs.Headers.{header-of};
 ghost use Rattle.payments.specs.Payments.{payment-of};
 ghost use Rattle.houses.specs.Rules.{Rules, Sound};
-ghost use Rattle.houses.specs.Tallies.{tally-of};
+ghost use Rattle.tally.specs.Tallies.{tally-of};
 use crate::objection::Objection;
-use crate::tally::Tally;
+use tally::Tally;
 use headers::Header;
 use payments::Payment;
 

@@ -1,4 +1,4 @@
-// A bank's extra rules, behind one interface, and the tally that they judge.
+// A bank's extra rules, behind one interface.
 pub mod balanced;
 pub mod banks;
 mod bytes;
@@ -6,5 +6,3 @@ pub mod house;
 pub mod listed;
 pub mod objection;
 pub mod plain;
-pub mod tallies;
-pub mod tally;

@@ -8,7 +8,7 @@ ghost use Rattle.houses.specs.Listed.{bank-of, listed-rules, named, numbered, 
 use crate::bytes::same;
 use crate::house::House;
 use crate::objection::Objection;
-use crate::tally::Tally;
+use tally::Tally;
 use book::book::Book;
 use headers::Header;
 use payments::Payment;

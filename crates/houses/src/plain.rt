@@ -3,7 +3,7 @@ ghost use Rattle.houses.specs.Laws.{plain-sound};
 ghost use Rattle.houses.specs.Rules.{plain-rules};
 use crate::house::House;
 use crate::objection::Objection;
-use crate::tally::Tally;
+use tally::Tally;
 use headers::Header;
 use payments::Payment;
 

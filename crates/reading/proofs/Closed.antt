@@ -17,7 +17,7 @@ use Rattle.payments.specs.Payments.{PaymentOf}
 use Rattle.trailers.specs.Trailers.{trailer-row, trailer-values, trailer-fault, trailer-value, trailer-wrong, trailer-bytes}
 use Rattle.trailers.proofs.Shapes.{trailer-lawful}
 use Rattle.houses.specs.Rules.{Rules}
-use Rattle.houses.specs.Tallies.{tallied, totals, credits, debits}
+use Rattle.tally.specs.Tallies.{tallied, totals, credits, debits}
 use Rattle.reading.specs.Exact.{line-of}
 use Rattle.reading.specs.Reading.{none-fault, totals-fault, tally-refused, after-fault, closing}
 use Rattle.reading.proofs.Passed.{passed, passes, same-ok, tally-unrefused}

@@ -22,8 +22,8 @@ use Rattle.faults.specs.Faults.{fault-at}
 use Rattle.payments.specs.Payments.{PaymentOf}
 use Rattle.trailers.specs.Trailers.{trailer-fault, trailer-value}
 use Rattle.houses.specs.Rules.{Rules}
-use Rattle.houses.specs.Tallies.{TallyOf, tallied, totals, apart, credits, debits}
-use Rattle.houses.proofs.Tallied.{tallied-credit, tallied-debit, tallied-count}
+use Rattle.tally.specs.Tallies.{TallyOf, tallied, totals, apart, credits, debits}
+use Rattle.tally.proofs.Tallied.{tallied-credit, tallied-debit, tallied-count}
 use Rattle.reading.specs.ByTally.{tally-closing, tally-totals, count-fault}
 use Rattle.reading.specs.Reading.{past, totals-fault, tally-refused, after-fault, SummaryOf, closing, none-fault, summed}
 use Rattle.reading.proofs.Openings.{verdict}

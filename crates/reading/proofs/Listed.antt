@@ -12,7 +12,7 @@ use Rattle.lines.specs.Lines.{line-fault, tagged}
 use Rattle.payments.specs.Payments.{PaymentOf, payment-fault, payment-value, payment-bytes}
 use Rattle.trailers.specs.Trailers.{trailer-bytes}
 use Rattle.houses.specs.Rules.{Rules}
-use Rattle.houses.specs.Tallies.{totals}
+use Rattle.tally.specs.Tallies.{totals}
 use Rattle.reading.specs.Exact.{line-of, Agreed}
 use Rattle.reading.specs.Reading.{past, objected, closing, details, agreed, and-then}
 use Rattle.reading.proofs.Closed.{Closed, closed-admitted, closing-only, closing-all}

@@ -32,8 +32,8 @@ use Rattle.lines.specs.Lines.{line-fault, head-fault, tagged, cut}
 use Rattle.payments.specs.Payments.{PaymentOf, payment-row, payment-values, payment-fault, payment-value, payment-wrong}
 use Rattle.payments.proofs.Shapes.{payment-lawful}
 use Rattle.houses.specs.Rules.{Rules}
-use Rattle.houses.specs.Tallies.{TallyOf, tallied, with-payment}
-use Rattle.houses.proofs.Tallied.{tallied-more}
+use Rattle.tally.specs.Tallies.{TallyOf, tallied, with-payment}
+use Rattle.tally.proofs.Tallied.{tallied-more}
 use Rattle.reading.specs.ByTally.{tally-closing}
 use Rattle.reading.specs.Reading.{past, and-then, by-tag, objected, opening, agreed, details, closing, read-of, summed, SummaryOf}
 use Rattle.reading.proofs.Closings.{closing-tallied, map-past}

@@ -12,9 +12,9 @@ use Rattle.faults.specs.declared.Fault.{Fault}
 use Rattle.trailers.specs.declared.Trailer.{Trailer}
 use Rattle.faults.specs.Faults.{fault-at}
 use Rattle.trailers.specs.Trailers.{trailer-fault, trailer-value}
-use Rattle.houses.specs.declared.tally.Row.{Row}
+use Rattle.tally.specs.declared.Row.{Row}
 use Rattle.houses.specs.Rules.{Rules}
-use Rattle.houses.specs.Tallies.{TallyOf, apart, rows-credit, rows-debit, rows-count}
+use Rattle.tally.specs.Tallies.{TallyOf, apart, rows-credit, rows-debit, rows-count}
 use Rattle.reading.specs.Reading.{past, totals-fault, tally-refused, after-fault, SummaryOf}
 
 -- the totals that a tally's rows come to

@@ -12,7 +12,7 @@ use Rattle.headers.specs.Headers.{HeaderOf, header-wrong, header-bytes}
 use Rattle.payments.specs.Payments.{PaymentOf, payment-wrong, payment-bytes}
 use Rattle.trailers.specs.Trailers.{trailer-bytes}
 use Rattle.houses.specs.Rules.{Rules}
-use Rattle.houses.specs.Tallies.{tallied, totals, credits, debits}
+use Rattle.tally.specs.Tallies.{tallied, totals, credits, debits}
 use Rattle.reading.specs.Reading.{SummaryOf, summed}
 
 -- a record is followed by CR LF

@@ -23,7 +23,7 @@ use Rattle.reading.specs.Records.{RecordOf, a-header, a-detail, a-trailer}
 use Rattle.trailers.specs.Trailers.{trailer-fault, trailer-value}
 use Rattle.houses.specs.declared.objection.Objection.{Objection}
 use Rattle.houses.specs.Rules.{Rules}
-use Rattle.houses.specs.Tallies.{TallyOf, tally-of, tallied, totals}
+use Rattle.tally.specs.Tallies.{TallyOf, tally-of, tallied, totals}
 use Rattle.reading.specs.declared.summary.Summary.{Summary}
 
 -- a refusal, or else what comes then

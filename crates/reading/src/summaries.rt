@@ -3,7 +3,7 @@ ghost use mathlib.Core.List.{[]};
 ghost use mathlib.Core.Path.{_≡_};
 ghost use Rattle.reading.specs.Reading.{summary-of, summed};
 use crate::summary::Summary;
-use houses::tally::Tally;
+use tally::Tally;
 use trailers::Trailer;
 
 impl<'a> Summary<'a> {

@@ -1,5 +1,5 @@
 // What an accepted file comes to.
-use houses::tally::Tally;
+use tally::Tally;
 use trailers::Trailer;
 
 // The tally of a file's payments, and their totals.

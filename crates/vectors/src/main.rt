@@ -14,7 +14,7 @@ use houses::listed::Listed;
 use houses::listed::ListedHouse;
 use houses::plain::Plain;
 use houses::plain::PlainHouse;
-use houses::tally::Tally;
+use tally::Tally;
 use reading::read::read;
 use reading::record::record;
 use reading::records::Record;

@@ -1,5 +1,5 @@
 use Rattle.std.proofs.shelf.Results.{err-from-errBy}
-use Rattle.houses.specs.Tallies.{tally-of}
+use Rattle.tally.specs.Tallies.{tally-of}
 use Rattle.reading.proofs.Closings.{bad-trailer, no-details, wrong-totals, refused-tally, bytes-after, closed}
 use Rattle.reading.proofs.read.close.Needs as need
 

@@ -3,7 +3,7 @@ use native.Mathlib.Omega.{arith}
 use Rattle.std.specs.declared.result.Result.the-variants.{Ok, Err}
 use Rattle.std.proofs.shelf.Results.{err-from-errBy}
 use Rattle.payments.specs.Payments.{payment-of}
-use Rattle.houses.specs.Tallies.{tally-of}
+use Rattle.tally.specs.Tallies.{tally-of}
 use Rattle.reading.specs.Reading.{summary-of}
 use Rattle.reading.proofs.Answered.{left-by}
 use Rattle.reading.proofs.Sofar.{start-refused, started, line-refused, tag-refused, at-trailer, too-many, detail-refused, one-more}

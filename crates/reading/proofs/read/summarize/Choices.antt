@@ -1,5 +1,5 @@
 use Prim.Native.Nat.{_-_}
-use Rattle.houses.specs.Tallies.{tally-of}
+use Rattle.tally.specs.Tallies.{tally-of}
 use Rattle.reading.proofs.Sofar.{Sofar}
 use Rattle.reading.proofs.read.summarize.Given as given
 

@@ -1,8 +1,8 @@
 use native.Mathlib.Omega.{arith}
 use Rattle.std.proofs.shelf.Lists.{take-all}
 use Rattle.std.proofs.shelf.Sums.{sumBy-more}
-use Rattle.houses.specs.Tallies.{no-row}
-use Rattle.houses.proofs.tallies.sums.Needs as need
+use Rattle.tally.specs.Tallies.{no-row}
+use Rattle.tally.proofs.sums.Needs as need
 
 pub loop-row-again : need.loop-row-again
 loop-row-again c =

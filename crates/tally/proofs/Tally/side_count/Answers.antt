@@ -1,8 +1,8 @@
 use mathlib.Core.Path.{sym, ap, _∙_}
 use Rattle.std.proofs.shelf.Lists.{take-rest}
 use Rattle.std.proofs.shelf.Tests.{ne-eqb, cond-false}
-use Rattle.houses.specs.Tallies.{rows-count}
-use Rattle.houses.proofs.tally.Tally.side_count.Needs as need
+use Rattle.tally.specs.Tallies.{rows-count}
+use Rattle.tally.proofs.Tally.side_count.Needs as need
 
 pub returns-else-code-eq13 : need.returns-else-code-eq13
 returns-else-code-eq13 c =

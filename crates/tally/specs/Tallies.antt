@@ -10,9 +10,9 @@ use Rattle.std.specs.shelf.Lists.{sumBy, countBy}
 use Rattle.fields.specs.Numbers.{in-table}
 use Rattle.trailers.specs.declared.Trailer.{Trailer}
 use Rattle.payments.specs.Payments.{PaymentOf}
-use Rattle.houses.specs.declared.tally.Row.{Row}
-use Rattle.houses.specs.declared.tally.Last.{Last}
-use Rattle.houses.specs.declared.tally.Tally.{Tally}
+use Rattle.tally.specs.declared.Row.{Row}
+use Rattle.tally.specs.declared.Last.{Last}
+use Rattle.tally.specs.declared.Tally.{Tally}
 
 abbrev pub no-row : Row
 no-row = record { count = 0; cents = 0 }

@@ -14,8 +14,8 @@ use Rattle.std.proofs.shelf.Sums.{sumBy-cons, sumBy-push, sumBy-le, countBy-le-
 use Rattle.std.proofs.shelf.Ways.{tells}
 use Rattle.fields.specs.Numbers.{in-table}
 use Rattle.payments.specs.Payments.{PaymentOf}
-use Rattle.houses.specs.declared.tally.Row.{Row}
-use Rattle.houses.specs.Tallies.{the-codes, row-for, place-of, row-added, one-more, shown-last, last-payment, tallied, with-payment, is-debit, credits, debits, rows-credit, rows-debit, rows-count}
+use Rattle.tally.specs.declared.Row.{Row}
+use Rattle.tally.specs.Tallies.{the-codes, row-for, place-of, row-added, one-more, shown-last, last-payment, tallied, with-payment, is-debit, credits, debits, rows-credit, rows-debit, rows-count}
 
 -- a code has one row or none, so that row is all that a payment changes
 one-row : (rows : ℕ → Row) (n x : ℕ) → map (λ code. cond (eqb n code) (one-more (rows code) x) (rows code)) the-codes ≡ row-added (map rows the-codes) (place-of n) x

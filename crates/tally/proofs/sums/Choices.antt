@@ -1,8 +1,8 @@
 use mathlib.Core.Path.{_≡_}
 use Prim.Native.Nat.{_≤_, _*_, _-_, _^_}
 use lib.ListN.{take}
-use Rattle.houses.specs.Tallies.{rows-count, rows-cents}
-use Rattle.houses.proofs.tallies.sums.Given as given
+use Rattle.tally.specs.Tallies.{rows-count, rows-cents}
+use Rattle.tally.proofs.sums.Given as given
 
 abbrev pub Inv-loop-row : given.InvT-loop-row
 Inv-loop-row l =

@@ -1,12 +1,31 @@
-// How a tally is made, grows and is summed.
+// What payments come to, code by code: how a tally is made, grows and is summed.
 ghost use mathlib.Core.List.{[]};
 ghost use mathlib.Core.Path.{_≡_};
-ghost use Rattle.houses.specs.Tallies.{one-more, place-of, rows-cents, rows-count, rows-credit, rows-debit, side-count, tallied, tally-of, with-payment};
+ghost use Rattle.tally.specs.Tallies.{one-more, place-of, rows-cents, rows-count, rows-credit, rows-debit, side-count, tallied, tally-of, with-payment};
 ghost use Rattle.payments.specs.Payments.{payment-of};
-use crate::tally::Last;
-use crate::tally::Row;
-use crate::tally::Tally;
 use payments::Payment;
+
+// How many payments have a code, and their cents.
+#[derive(Clone, Copy)]
+pub struct Row {
+    pub count: u64,
+    pub cents: u64,
+}
+
+// The last payment, by what a house is shown of it.
+#[derive(Clone, Copy)]
+pub struct Last<'a> {
+    pub bsb: u64,
+    pub account: &'a [u8],
+    pub code: u64,
+}
+
+// A row for each of the codes 13 and 50 to 57, and the last payment.
+#[derive(Clone, Copy)]
+pub struct Tally<'a> {
+    pub rows: [Row; 9],
+    pub last: Option<Last<'a>>,
+}
 
 // The place of a code's row, where the table has the code.
 fn place_of(code: u64) -> Option<usize>
