@@ -14,7 +14,7 @@ use Rattle.std.proofs.shelf.Lists.{getD-append-left, getD-push, length-push}
 use Rattle.std.proofs.shelf.Tests.{lt-ltb, le-ltb, cond-true, cases-lt, ne-eqb}
 use Rattle.std.proofs.shelf.Ways.{tells}
 use Rattle.faults.specs.declared.Cause.the-variants.{NotRising, BookFull}
-use Rattle.fields.specs.Layouts.{or-later}
+use Rattle.kinds.specs.Layouts.{or-later}
 use Rattle.book.specs.declared.book.Row.{Row}
 use Rattle.book.specs.Search.{Climbs, first-not-below}
 use Rattle.book.specs.Books.{above-last, row-fault, nowhere, has-number}

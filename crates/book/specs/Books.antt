@@ -10,7 +10,7 @@ use Rattle.std.specs.declared.option.Option.the-variants.{Some, None}
 use Rattle.faults.specs.declared.Cause.{Cause}
 use Rattle.faults.specs.declared.Cause.the-variants.{NotRising, BookFull}
 use Rattle.faults.specs.declared.Fault.{Fault}
-use Rattle.fields.specs.Layouts.{or-later}
+use Rattle.kinds.specs.Layouts.{or-later}
 use Rattle.book.specs.declared.book.Book.{Book}
 use Rattle.book.specs.declared.book.Row.{Row}
 

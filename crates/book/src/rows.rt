@@ -4,7 +4,7 @@ ghost use mathlib.Core.List.{[], _∷_, _++_};
 ghost use mathlib.Core.Path.{_≡_};
 ghost use lib.ListN.{length};
 ghost use Rattle.std.specs.Results.{isOk};
-ghost use Rattle.fields.specs.Kinds.{answered};
+ghost use Rattle.kinds.specs.Kinds.{answered};
 ghost use Rattle.book.specs.Books.{rows-of, room-of, row-fault, above-last, nowhere, FoundAt};
 use crate::book::Book;
 use crate::book::Row;

@@ -3,8 +3,8 @@ ghost use Rattle.capped.specs.Capped.{capped-rules, capped-sound};
 use headers::Header;
 use houses::house::House;
 use houses::objection::Objection;
-use tally::Tally;
 use payments::Payment;
+use tally::Tally;
 
 // The most cents that one payment may have.
 #[derive(Clone, Copy)]

@@ -15,11 +15,11 @@ use Rattle.faults.specs.declared.Cause.the-variants.{Empty, StrayBlank}
 use Rattle.faults.specs.declared.Fault.{Fault}
 use Rattle.faults.specs.declared.Place.{Place}
 use Rattle.faults.specs.Faults.{Misfit}
-use Rattle.fields.specs.Kinds.{refused-from, answered, placedAt}
+use Rattle.kinds.specs.Kinds.{refused-from, answered, placedAt}
 use Rattle.fields.specs.Numbers.{whole}
 use Rattle.fields.specs.Texts.{is-blank, text-end, text-flaw}
-use Rattle.fields.proofs.Answers.{passed, stopped, unplaced}
-use Rattle.fields.proofs.Scan.{then-later, refused-first}
+use Rattle.kinds.proofs.Answers.{passed, stopped, unplaced}
+use Rattle.kinds.proofs.Scan.{then-later, refused-first}
 
 -- what a misfit is answered by
 abbrev pub reply : Place → Option Misfit → Result (Unit {0}) Fault

@@ -1,6 +1,5 @@
 -- Proofs that each kind keeps its laws. They stand here, since the kinds cite them; nothing here need be believed.
 pub mod Accounts
-pub mod Admitted
 pub mod Dates
 pub mod Fixed
 pub mod Numbers

@@ -10,7 +10,7 @@ use Rattle.faults.specs.declared.Cause.{Cause}
 use Rattle.faults.specs.declared.Cause.the-variants.{TooWide, Empty, NoSuchValue}
 use Rattle.fields.specs.declared.date.Date.{Date}
 use Rattle.faults.specs.Faults.{Misfit}
-use Rattle.fields.specs.Kinds.{Kind, AllFrom}
+use Rattle.kinds.specs.Kinds.{Kind, AllFrom}
 
 -- the first column of a field is where it is refused as a whole
 abbrev pub whole : Cause → Misfit

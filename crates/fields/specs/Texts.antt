@@ -10,7 +10,7 @@ use Rattle.std.specs.declared.option.Option.the-variants.{Some, None}
 use Rattle.std.specs.shelf.Lists.{leading}
 use Rattle.faults.specs.declared.Cause.the-variants.{TooWide, WrongByte, Empty, StrayBlank}
 use Rattle.faults.specs.Faults.{Misfit}
-use Rattle.fields.specs.Kinds.{Kind, refused-from}
+use Rattle.kinds.specs.Kinds.{Kind, refused-from}
 use Rattle.fields.specs.Numbers.{whole, unless, digit}
 
 -- exactly the given bytes

@@ -3,15 +3,15 @@ ghost use mathlib.Core.Path.{_≡_};
 ghost use Prim.Native.Nat.{_+_, _<_, _≤_, _^_};
 ghost use lib.ListN.{length};
 ghost use denote.Ref.{now};
-ghost use Rattle.fields.specs.Kinds.{answered, placedAt};
+ghost use Rattle.kinds.specs.Kinds.{answered, placedAt};
 ghost use Rattle.fields.specs.Texts.{account-kind, account-byte, account-flaw, positive, indent};
 ghost use Rattle.fields.specs.Laws.Accounts.{account-lawful};
-use crate::alphabet::Alphabet;
-use crate::alphabet::scan;
-use crate::kind::FieldKind;
 use faults::Cause;
 use faults::Fault;
 use faults::Place;
+use kinds::alphabet::Alphabet;
+use kinds::alphabet::scan;
+use kinds::kind::FieldKind;
 
 // An account of nine columns, with at least one digit 1 to 9.
 #[derive(Clone, Copy)]

@@ -2,9 +2,6 @@
 ghost use mathlib.Core.Path.{_≡_};
 ghost use Rattle.fields.specs.Laws.Dates.{bsb-lawful};
 ghost use Rattle.fields.specs.Numbers.{bsb-kind};
-use crate::alphabet::Alphabet;
-use crate::alphabet::scan;
-use crate::kind::FieldKind;
 use crate::number::DigitsAlphabet;
 use crate::number::is_digit;
 use crate::number::number_of;
@@ -12,6 +9,9 @@ use crate::number::spell_digits;
 use faults::Cause;
 use faults::Fault;
 use faults::Place;
+use kinds::alphabet::Alphabet;
+use kinds::alphabet::scan;
+use kinds::kind::FieldKind;
 
 // A BSB, whose value is the number of its six digits.
 #[derive(Clone, Copy)]

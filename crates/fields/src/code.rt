@@ -3,8 +3,6 @@ ghost use mathlib.Core.Path.{_≡_};
 ghost use Rattle.faults.specs.declared.Cause.the-variants.{NoSuchValue};
 ghost use Rattle.fields.specs.Laws.Numbers.{numeral-lawful};
 ghost use Rattle.fields.specs.Numbers.{code-kind, in-table};
-use crate::alphabet::scan;
-use crate::kind::FieldKind;
 use crate::number::Digits;
 use crate::number::DigitsAlphabet;
 use crate::number::number_of;
@@ -12,6 +10,8 @@ use crate::number::spell_digits;
 use faults::Cause;
 use faults::Fault;
 use faults::Place;
+use kinds::alphabet::scan;
+use kinds::kind::FieldKind;
 
 fn is_code(n: u64) -> bool
     ensures { λ r. ⌜ r ≡ in-table n ⌝ }

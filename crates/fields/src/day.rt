@@ -3,9 +3,7 @@ ghost use mathlib.Core.Path.{_≡_};
 ghost use Rattle.fields.specs.Laws.Dates.{date-lawful};
 ghost use Rattle.fields.specs.Numbers.{date-kind, date-of, a-day, days-in, leap, AllDigits};
 ghost use lib.ListN.{length};
-use crate::alphabet::scan;
 use crate::date::Date;
-use crate::kind::FieldKind;
 use crate::number::Digits;
 use crate::number::DigitsAlphabet;
 use crate::number::number_of;
@@ -13,6 +11,8 @@ use crate::number::spell_digits;
 use faults::Cause;
 use faults::Fault;
 use faults::Place;
+use kinds::alphabet::scan;
+use kinds::kind::FieldKind;
 
 fn is_leap(year: u64) -> bool
     ensures { λ r. ⌜ r ≡ leap year ⌝ }

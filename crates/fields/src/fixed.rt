@@ -4,11 +4,11 @@ ghost use denote.Ref.{now};
 ghost use lib.ListN.{length};
 ghost use Rattle.fields.specs.Laws.Fixed.{fixed-lawful};
 ghost use Rattle.fields.specs.Texts.{fixed-kind};
-use crate::alphabet::Alphabet;
-use crate::alphabet::scan;
-use crate::kind::FieldKind;
 use faults::Fault;
 use faults::Place;
+use kinds::alphabet::Alphabet;
+use kinds::alphabet::scan;
+use kinds::kind::FieldKind;
 
 // Exactly the given bytes.
 #[derive(Clone, Copy)]

@@ -3,12 +3,12 @@ ghost use mathlib.Core.Path.{_≡_};
 ghost use lib.Chars.{codes};
 ghost use Rattle.fields.specs.Texts.{mark-kind, member};
 ghost use Rattle.fields.specs.Laws.Texts.{mark-lawful};
-use crate::alphabet::Alphabet;
-use crate::alphabet::scan;
-use crate::kind::FieldKind;
 use faults::Cause;
 use faults::Fault;
 use faults::Place;
+use kinds::alphabet::Alphabet;
+use kinds::alphabet::scan;
+use kinds::kind::FieldKind;
 
 #[derive(Clone, Copy)]
 pub struct Mark;

@@ -1,17 +1,15 @@
 // Digits, right justified, zero filled.
 ghost use mathlib.Core.Path.{_≡_};
 ghost use Prim.Native.Nat.{ℕ, _≤_, _<_, _^_};
-ghost use lib.Dec.{leb};
 ghost use lib.ListN.{length};
-ghost use Rattle.faults.specs.declared.Cause.the-variants.{Empty};
-ghost use Rattle.fields.specs.Laws.Numbers.{numeral-lawful};
+ghost use Rattle.fields.specs.Laws.Numbers.{number-lawful};
 ghost use Rattle.fields.specs.Numbers.{number-kind, number-of, digits, AllDigits, digit};
-use crate::alphabet::Alphabet;
-use crate::alphabet::scan;
-use crate::kind::FieldKind;
 use faults::Cause;
 use faults::Fault;
 use faults::Place;
+use kinds::alphabet::Alphabet;
+use kinds::alphabet::scan;
+use kinds::kind::FieldKind;
 
 // The number that digits write.
 pub(crate) fn number_of(bytes: &[u8]) -> u64
@@ -69,7 +67,7 @@ pub impl<'a, const W: usize, const LEAST: u64> FieldKind<'a> for Number<W, LEAST
 
     ghost shown = { λ _ n. n };
 
-    ghost laws = { λ _. numeral-lawful W (leb LEAST) Empty };
+    ghost laws = { λ _. number-lawful W LEAST };
 
     fn columns(&self) -> usize {
         W

@@ -4,15 +4,15 @@ ghost use Prim.Native.Nat.{_≤_};
 ghost use lib.ListN.{length};
 ghost use denote.Ref.{now};
 ghost use Rattle.std.specs.declared.option.Option.the-variants.{None};
-ghost use Rattle.fields.specs.Kinds.{answered, placedAt};
+ghost use Rattle.kinds.specs.Kinds.{answered, placedAt};
 ghost use Rattle.fields.specs.Texts.{text-kind, text-end, text-flaw, character};
 ghost use Rattle.fields.specs.Laws.Texts.{text-lawful};
-use crate::alphabet::Alphabet;
-use crate::alphabet::scan;
-use crate::kind::FieldKind;
 use faults::Cause;
 use faults::Fault;
 use faults::Place;
+use kinds::alphabet::Alphabet;
+use kinds::alphabet::scan;
+use kinds::kind::FieldKind;
 
 // A text of W columns.
 #[derive(Clone, Copy)]

@@ -4,12 +4,13 @@ use mathlib.Core.List.{List}
 use Prim.Native.Nat.{ℕ}
 use lib.ListN.{length}
 use Rattle.std.specs.declared.option.Option.the-variants.{None}
-use Rattle.fields.specs.Layouts.{AllLawful}
+use Rattle.kinds.specs.Layouts.{AllLawful}
 use Rattle.fields.specs.Laws.Dates.{date-lawful}
 use Rattle.fields.specs.Laws.Fixed.{fixed-lawful}
+use Rattle.fields.specs.Laws.Numbers.{number-lawful}
 use Rattle.fields.specs.Laws.Texts.{text-lawful}
-use Rattle.fields.specs.RoundTrips.{SpellsBack, ReadsBack}
-use Rattle.fields.proofs.Shapes.{number-lawful, read-spells, spelled-reads}
+use Rattle.kinds.specs.RoundTrips.{SpellsBack, ReadsBack}
+use Rattle.kinds.proofs.Shapes.{read-spells, spelled-reads}
 use Rattle.headers.specs.Headers.{HeaderOf, header-row, header-values, header-from, header-fault, header-value, header-wrong, header-bytes}
 
 pub header-lawful : AllLawful header-row

@@ -5,7 +5,7 @@ use lib.Chars.{codes}
 use Rattle.std.specs.declared.option.Option.{Option}
 use Rattle.fields.specs.declared.date.Date.{Date}
 use Rattle.faults.specs.declared.Fault.{Fault}
-use Rattle.fields.specs.Layouts.{Row, end, then, Values, start, first-fault, values, form-fault, spelled}
+use Rattle.kinds.specs.Layouts.{Row, end, then, Values, start, first-fault, values, form-fault, spelled}
 use Rattle.fields.specs.Numbers.{number-kind, date-kind}
 use Rattle.fields.specs.Texts.{fixed-kind, text-kind, blank}
 use Rattle.headers.specs.declared.Header.{Header}

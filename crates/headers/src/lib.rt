@@ -3,8 +3,8 @@ ghost use mathlib.Core.Bool.{cond};
 ghost use mathlib.Core.Path.{_≡_};
 ghost use Rattle.std.specs.Results.{isOk};
 ghost use Rattle.std.specs.Vec.{made};
-ghost use Rattle.fields.specs.Kinds.{answered, mapOk};
-ghost use Rattle.fields.specs.RoundTrips.{SpellsBack, ReadsBack};
+ghost use Rattle.kinds.specs.Kinds.{answered, mapOk};
+ghost use Rattle.kinds.specs.RoundTrips.{SpellsBack, ReadsBack};
 ghost use Rattle.headers.specs.Headers.{header-of, header-fault, header-value, header-wrong, header-bytes};
 
 mod columns;
@@ -15,11 +15,11 @@ use faults::Place;
 use fields::date::Date;
 use fields::day::DayField;
 use fields::fixed::FixedField;
-use fields::layout::EndLayout;
-use fields::layout::Layout;
-use fields::layout::ThenLayout;
 use fields::number::NumberField;
 use fields::text::TextField;
+use kinds::layout::EndLayout;
+use kinds::layout::Layout;
+use kinds::layout::ThenLayout;
 
 // A header by its values. Texts come without padding.
 #[derive(Clone, Copy)]

@@ -10,8 +10,8 @@ use Rattle.std.specs.declared.option.Option.the-variants.{Some, None}
 use Rattle.std.specs.Options.{orOther}
 use Rattle.std.specs.shelf.Text.{sameBytes}
 use Rattle.faults.specs.declared.Fault.{Fault}
-use Rattle.fields.specs.Kinds.{placedAt}
-use Rattle.fields.specs.Layouts.{or-later}
+use Rattle.kinds.specs.Kinds.{placedAt}
+use Rattle.kinds.specs.Layouts.{or-later}
 use Rattle.fields.specs.Numbers.{bsb-kind}
 use Rattle.fields.specs.Texts.{account-kind}
 use Rattle.headers.specs.Headers.{HeaderOf}

@@ -13,7 +13,7 @@ use Rattle.std.specs.Options.{orOther}
 use Rattle.std.specs.shelf.Text.{sameBytes}
 use Rattle.std.proofs.shelf.Lists.{take-all}
 use Rattle.std.proofs.shelf.Tests.{ltb-false}
-use Rattle.fields.specs.Laws.Admitted.{unless-true}
+use Rattle.kinds.specs.Admitted.{unless-true}
 use Rattle.fields.specs.Texts.{text-kind}
 use Rattle.houses.specs.Balanced.{balanced-rules, balanced-last, in-text, semicolon, settles}
 use Rattle.houses.specs.Listed.{BankOf, listed-rules, named, numbered, bank-digits}

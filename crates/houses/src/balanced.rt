@@ -3,22 +3,22 @@ ghost use mathlib.Core.Path.{_≡_};
 ghost use mathlib.Core.List.{List};
 ghost use Prim.Native.Nat.{ℕ, _+_, _<_, _^_};
 ghost use denote.Ref.{now};
-ghost use Rattle.fields.specs.Kinds.{answered, mapOk};
+ghost use Rattle.kinds.specs.Kinds.{answered, mapOk};
 ghost use Rattle.houses.specs.Balanced.{balanced-rules, balanced-wrong, in-text};
 ghost use Rattle.houses.specs.Laws.{balanced-sound};
 use crate::bytes::same;
 use crate::house::House;
 use crate::objection::Objection;
-use tally::Tally;
 use faults::Fault;
 use faults::Place;
 use fields::account::Account;
 use fields::account::AccountField;
 use fields::bsb::Bsb;
 use fields::bsb::BsbField;
-use fields::kind::FieldKind;
 use headers::Header;
+use kinds::kind::FieldKind;
 use payments::Payment;
+use tally::Tally;
 
 // The settling BSB and account. Only `new` makes one, so that both are admitted.
 #[derive(Clone, Copy)]

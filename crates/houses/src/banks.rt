@@ -3,19 +3,19 @@ ghost use mathlib.Core.Bool.{cond};
 ghost use mathlib.Core.List.{[], _∷_, _++_, map};
 ghost use mathlib.Core.Path.{_≡_};
 ghost use Rattle.std.specs.Results.{isOk};
-ghost use Rattle.fields.specs.Kinds.{answered};
-ghost use Rattle.fields.specs.Layouts.{or-later};
+ghost use Rattle.kinds.specs.Kinds.{answered};
+ghost use Rattle.kinds.specs.Layouts.{or-later};
 ghost use Rattle.book.specs.Books.{rows-of, room-of, row-fault};
 ghost use Rattle.houses.specs.Listed.{bank-wrong, bank-of};
 use book::book::Book;
 use book::book::Row;
 use faults::Fault;
 use faults::Place;
-use fields::kind::FieldKind;
 use fields::number::Number;
 use fields::number::NumberField;
 use fields::text::Text;
 use fields::text::TextField;
+use kinds::kind::FieldKind;
 
 // What a bank line is refused for, as in a form.
 fn judge_bank(number: u64, name: &[u8]) -> Result<(), Fault>

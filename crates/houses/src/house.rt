@@ -5,9 +5,9 @@ ghost use Rattle.payments.specs.Payments.{payment-of};
 ghost use Rattle.houses.specs.Rules.{Rules, Sound};
 ghost use Rattle.tally.specs.Tallies.{tally-of};
 use crate::objection::Objection;
-use tally::Tally;
 use headers::Header;
 use payments::Payment;
+use tally::Tally;
 
 // A house is one bank's extra rules. Each question answers what its rule says of the values shown, alike each time, and alters nothing.
 pub trait House {

@@ -1,7 +1,7 @@
 // A bank's extra rules, behind one interface.
 pub mod balanced;
 pub mod banks;
-mod bytes;
+pub mod bytes;
 pub mod house;
 pub mod listed;
 pub mod objection;

@@ -8,10 +8,10 @@ ghost use Rattle.houses.specs.Listed.{bank-of, listed-rules, named, numbered, 
 use crate::bytes::same;
 use crate::house::House;
 use crate::objection::Objection;
-use tally::Tally;
 use book::book::Book;
 use headers::Header;
 use payments::Payment;
+use tally::Tally;
 
 #[derive(Clone, Copy)]
 pub struct Listed<'l, 'a, 'n> {

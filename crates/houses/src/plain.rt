@@ -3,9 +3,9 @@ ghost use Rattle.houses.specs.Laws.{plain-sound};
 ghost use Rattle.houses.specs.Rules.{plain-rules};
 use crate::house::House;
 use crate::objection::Objection;
-use tally::Tally;
 use headers::Header;
 use payments::Payment;
+use tally::Tally;
 
 #[derive(Clone, Copy)]
 pub struct Plain;

@@ -23,7 +23,7 @@ use std::io::Write;
 use words::Choice;
 use words::Unmade;
 use words::choose;
-use words::list_banks;
+use words::list_word;
 
 // The bytes of a file with 999,999 details; a longer one is refused by what stands there.
 const LARGEST: u64 = 122_000_122;
@@ -79,6 +79,14 @@ fn say_unmade(rt: &LibcRuntime, why: Unmade) -> Result<bool, AnyError> {
         }
     }
     Ok(false)
+}
+
+// Puts each word after the first on the list.
+fn list_banks<'w>(list: &mut Book<'_, &'w [u8]>, words: &[&'w [u8]]) -> Result<(), Unmade> {
+    for word in words.iter().skip(1) {
+        list_word(list, word)?;
+    }
+    Ok(())
 }
 
 fn inspect_listed<'w>(rt: &LibcRuntime, words: &[&'w [u8]]) -> Result<bool, AnyError> {

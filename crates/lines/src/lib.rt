@@ -1,7 +1,7 @@
 // One line of a file: its 120 columns, and which record they are.
 ghost use mathlib.Core.Path.{_≡_};
 ghost use lib.ListN.{getD};
-ghost use Rattle.fields.specs.Kinds.{answered, mapOk};
+ghost use Rattle.kinds.specs.Kinds.{answered, mapOk};
 ghost use Rattle.lines.specs.Lines.{line-fault, head-fault, tagged, no-record, cut, cut-of};
 use faults::Cause;
 use faults::Fault;

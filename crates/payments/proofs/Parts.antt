@@ -8,12 +8,12 @@ use Rattle.std.specs.declared.result.Result.the-variants.{Ok, Err}
 use lib.Chars.{codes}
 use Rattle.faults.specs.declared.Fault.{Fault}
 use Rattle.faults.specs.declared.Place.{Place}
-use Rattle.fields.specs.Kinds.{answered}
-use Rattle.fields.specs.Layouts.{Row, end, then, Values, or-later, start, first-fault, values, form-fault, spelled}
+use Rattle.kinds.specs.Kinds.{answered}
+use Rattle.kinds.specs.Layouts.{Row, end, then, Values, or-later, start, first-fault, values, form-fault, spelled}
 use Rattle.fields.specs.Numbers.{number-kind, code-kind, bsb-kind}
 use Rattle.fields.specs.Texts.{fixed-kind, text-kind, account-kind, mark-kind}
-use Rattle.fields.proofs.Answers.{passed, stopped, gave}
-use Rattle.fields.proofs.Joined.{both, fault-join, values-join, form-join, spelled-join}
+use Rattle.kinds.proofs.Answers.{passed, stopped, gave}
+use Rattle.kinds.proofs.Joined.{both, fault-join, values-join, form-join, spelled-join}
 use Rattle.payments.specs.Payments.{PaymentOf, payment-row, payment-from, payment-value, payment-wrong, payment-bytes, tax-fault}
 
 abbrev pub front-row : Row

@@ -12,17 +12,17 @@ use Rattle.std.specs.declared.option.Option.the-variants.{Some, None}
 use Rattle.faults.specs.declared.Cause.the-variants.{NoSuchValue, TaxUnmarked}
 use Rattle.faults.specs.declared.Fault.{Fault}
 use Rattle.faults.specs.Faults.{fault-at}
-use Rattle.fields.specs.Layouts.{AllLawful, or-later, start, first-fault, form-fault}
+use Rattle.kinds.specs.Layouts.{AllLawful, or-later, start, first-fault, form-fault}
 use Rattle.fields.specs.Laws.Accounts.{account-lawful}
 use Rattle.fields.specs.Laws.Dates.{bsb-lawful}
 use Rattle.fields.specs.Laws.Fixed.{fixed-lawful}
-use Rattle.fields.specs.Laws.Numbers.{numeral-lawful}
+use Rattle.fields.specs.Laws.Numbers.{numeral-lawful, number-lawful}
 use Rattle.fields.specs.Laws.Texts.{text-lawful, mark-lawful}
 use Rattle.fields.specs.Numbers.{in-table}
-use Rattle.fields.specs.RoundTrips.{SpellsBack, ReadsBack}
+use Rattle.kinds.specs.RoundTrips.{SpellsBack, ReadsBack}
 use Rattle.fields.specs.Texts.{member}
-use Rattle.fields.proofs.RoundTrip.{none-first}
-use Rattle.fields.proofs.Shapes.{number-lawful, read-spells, spelled-reads}
+use Rattle.kinds.proofs.RoundTrip.{none-first}
+use Rattle.kinds.proofs.Shapes.{read-spells, spelled-reads}
 use Rattle.payments.specs.Payments.{PaymentOf, payment-row, payment-values, payment-from, tax-fault, payment-fault, payment-value, payment-wrong, payment-bytes}
 
 pub payment-lawful : AllLawful payment-row

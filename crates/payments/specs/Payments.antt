@@ -8,7 +8,7 @@ use Rattle.std.specs.declared.option.Option.{Option}
 use Rattle.std.specs.declared.option.Option.the-variants.{Some, None}
 use Rattle.faults.specs.declared.Cause.the-variants.{TaxUnmarked}
 use Rattle.faults.specs.declared.Fault.{Fault}
-use Rattle.fields.specs.Layouts.{Row, end, then, Values, or-later, start, first-fault, values, form-fault, spelled}
+use Rattle.kinds.specs.Layouts.{Row, end, then, Values, or-later, start, first-fault, values, form-fault, spelled}
 use Rattle.fields.specs.Numbers.{number-kind, code-kind, bsb-kind}
 use Rattle.fields.specs.Texts.{fixed-kind, text-kind, account-kind, mark-kind, member}
 use Rattle.payments.specs.declared.Payment.{Payment}

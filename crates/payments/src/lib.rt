@@ -3,9 +3,9 @@ ghost use mathlib.Core.Bool.{cond};
 ghost use mathlib.Core.Path.{_≡_};
 ghost use Rattle.std.specs.Results.{isOk};
 ghost use Rattle.std.specs.Vec.{made};
-ghost use Rattle.fields.specs.Kinds.{answered, mapOk};
-ghost use Rattle.fields.specs.Layouts.{start, first-fault};
-ghost use Rattle.fields.specs.RoundTrips.{SpellsBack, ReadsBack};
+ghost use Rattle.kinds.specs.Kinds.{answered, mapOk};
+ghost use Rattle.kinds.specs.Layouts.{start, first-fault};
+ghost use Rattle.kinds.specs.RoundTrips.{SpellsBack, ReadsBack};
 ghost use Rattle.payments.specs.Payments.{payment-of, payment-row, payment-fault, payment-value, payment-wrong, payment-bytes, tax-fault};
 
 mod columns;
@@ -19,12 +19,12 @@ use fields::account::AccountField;
 use fields::bsb::BsbField;
 use fields::code::CodeField;
 use fields::fixed::FixedField;
-use fields::layout::EndLayout;
-use fields::layout::Layout;
-use fields::layout::ThenLayout;
 use fields::mark::MarkField;
 use fields::number::NumberField;
 use fields::text::TextField;
+use kinds::layout::EndLayout;
+use kinds::layout::Layout;
+use kinds::layout::ThenLayout;
 
 // A payment by its values. Texts and accounts come without padding.
 #[derive(Clone, Copy)]

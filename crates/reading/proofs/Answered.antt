@@ -6,7 +6,7 @@ use native.Mathlib.Omega.{arith}
 use Rattle.std.specs.declared.result.Result.{Result}
 use Rattle.std.specs.declared.result.Result.the-variants.{Ok, Err}
 use Rattle.faults.specs.declared.Fault.{Fault}
-use Rattle.fields.specs.Kinds.{mapOk}
+use Rattle.kinds.specs.Kinds.{mapOk}
 use Rattle.payments.specs.Payments.{PaymentOf}
 use Rattle.houses.specs.Rules.{Rules}
 use Rattle.reading.specs.Exact.{FileOf, Exact}

@@ -9,9 +9,9 @@ use Rattle.std.specs.declared.result.Result.the-variants.{Ok}
 use Rattle.std.proofs.shelf.Lists.{nil-from-length}
 use Rattle.std.proofs.shelf.Ways.{tells}
 use Rattle.fields.specs.Numbers.{number-kind}
-use Rattle.fields.proofs.RoundTrip.{round-trip}
+use Rattle.kinds.proofs.RoundTrip.{round-trip}
 use Rattle.trailers.specs.declared.Trailer.{Trailer}
-use Rattle.fields.specs.Layouts.{start}
+use Rattle.kinds.specs.Layouts.{start}
 use Rattle.lines.specs.Lines.{line-fault}
 use Rattle.payments.specs.Payments.{PaymentOf}
 use Rattle.trailers.specs.Trailers.{trailer-row, trailer-values, trailer-fault, trailer-value, trailer-wrong, trailer-bytes}

@@ -14,9 +14,9 @@ use Rattle.std.specs.shelf.Lists.{All}
 use Rattle.std.proofs.shelf.Tests.{eqb-true}
 use Rattle.faults.specs.declared.Cause.the-variants.{NoDetails}
 use Rattle.faults.specs.declared.Fault.{Fault}
-use Rattle.fields.specs.Kinds.{answered, mapOk}
+use Rattle.kinds.specs.Kinds.{answered, mapOk}
 use Rattle.fields.specs.Numbers.{in-table}
-use Rattle.fields.proofs.Answers.{gave}
+use Rattle.kinds.proofs.Answers.{gave}
 use Rattle.trailers.specs.declared.Trailer.{Trailer}
 use Rattle.faults.specs.Faults.{fault-at}
 use Rattle.payments.specs.Payments.{PaymentOf}

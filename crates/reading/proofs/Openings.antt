@@ -10,8 +10,8 @@ use Rattle.std.specs.declared.result.Result.{Result}
 use Rattle.std.specs.declared.result.Result.the-variants.{Ok, Err}
 use Rattle.std.proofs.shelf.Lists.{getD-take}
 use Rattle.faults.specs.declared.Fault.{Fault}
-use Rattle.fields.specs.Kinds.{answered}
-use Rattle.fields.proofs.Answers.{passed, stopped, gave}
+use Rattle.kinds.specs.Kinds.{answered}
+use Rattle.kinds.proofs.Answers.{passed, stopped, gave}
 use Rattle.headers.specs.Headers.{HeaderOf, header-fault, header-value}
 use Rattle.lines.specs.Lines.{line-fault, head-fault, cut}
 use Rattle.payments.specs.Payments.{PaymentOf, payment-fault, payment-value}

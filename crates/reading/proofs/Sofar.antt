@@ -16,16 +16,16 @@ use Rattle.std.proofs.shelf.Lists.{length-push}
 use Rattle.std.proofs.shelf.Tests.{ltb-true}
 use Rattle.faults.specs.declared.Cause.the-variants.{TooManyDetails, TooWide, NoSuchValue, Empty}
 use Rattle.faults.specs.declared.Fault.{Fault}
-use Rattle.fields.specs.Kinds.{answered, mapOk}
-use Rattle.fields.specs.Laws.Admitted.{unless-false}
+use Rattle.kinds.specs.Kinds.{answered, mapOk}
+use Rattle.kinds.specs.Admitted.{unless-false}
 use Rattle.fields.specs.Laws.Numbers.{unless-none}
-use Rattle.fields.specs.Layouts.{Admitted}
+use Rattle.kinds.specs.Layouts.{Admitted}
 use Rattle.fields.specs.Numbers.{in-table, whole, unless}
-use Rattle.fields.proofs.Answers.{passed as none-of, stopped}
-use Rattle.fields.proofs.RoundTrip.{round-trip, none-first}
+use Rattle.kinds.proofs.Answers.{passed as none-of, stopped}
+use Rattle.kinds.proofs.RoundTrip.{round-trip, none-first}
 use Rattle.lines.specs.declared.Tag.{Tag}
 use Rattle.lines.specs.declared.Tag.the-variants.{Detail, Trailer as IsTrailer}
-use Rattle.fields.specs.Layouts.{start}
+use Rattle.kinds.specs.Layouts.{start}
 use Rattle.headers.specs.Headers.{header-fault, header-value}
 use Rattle.faults.specs.Faults.{fault-at}
 use Rattle.lines.specs.Lines.{line-fault, head-fault, tagged, cut}

@@ -8,13 +8,13 @@ use Rattle.std.specs.declared.option.Option.{Option}
 use Rattle.std.specs.declared.option.Option.the-variants.{None}
 use Rattle.std.proofs.shelf.Ways.{tells}
 use Rattle.faults.specs.declared.Fault.{Fault}
-use Rattle.fields.specs.Layouts.{Row, Values, AllLawful, size, or-later, first-fault, values, form-fault, spelled}
-use Rattle.fields.proofs.RoundTrip.{none-first}
-use Rattle.fields.specs.Layouts.{start}
+use Rattle.kinds.specs.Layouts.{Row, Values, AllLawful, size, or-later, first-fault, values, form-fault, spelled}
+use Rattle.kinds.proofs.RoundTrip.{none-first}
+use Rattle.kinds.specs.Layouts.{start}
 use Rattle.headers.specs.Headers.{header-row, header-values, header-from, header-fault, header-value, header-wrong, header-bytes}
 use Rattle.payments.specs.Payments.{PaymentOf, payment-row, payment-values, payment-from, tax-fault, payment-fault, payment-value, payment-wrong, payment-bytes}
 use Rattle.trailers.specs.Trailers.{trailer-row, trailer-values, trailer-from, trailer-fault, trailer-value, trailer-wrong, trailer-bytes}
-use Rattle.fields.proofs.Shapes.{fields-admitted, fields-spelled, form-size, form-proper, form-read}
+use Rattle.kinds.proofs.Shapes.{fields-admitted, fields-spelled, form-size, form-proper, form-read}
 use Rattle.headers.proofs.Shapes.{header-lawful}
 use Rattle.payments.proofs.Shapes.{payment-lawful}
 use Rattle.trailers.proofs.Shapes.{trailer-lawful}

@@ -10,8 +10,8 @@ use Rattle.std.specs.declared.result.Result.{Result}
 use Rattle.std.specs.declared.result.Result.the-variants.{Ok, Err}
 use Rattle.std.proofs.shelf.Lists.{drop-all}
 use Rattle.faults.specs.declared.Fault.{Fault}
-use Rattle.fields.specs.Kinds.{answered, mapOk}
-use Rattle.fields.proofs.Answers.{passed, stopped, gave}
+use Rattle.kinds.specs.Kinds.{answered, mapOk}
+use Rattle.kinds.proofs.Answers.{passed, stopped, gave}
 use Rattle.lines.specs.declared.Tag.{Tag}
 use Rattle.lines.specs.declared.Tag.the-variants.{Detail, Trailer as IsTrailer}
 use Rattle.reading.specs.Reading.{past, by-tag, rest-at}

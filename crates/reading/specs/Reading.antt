@@ -11,7 +11,7 @@ use Rattle.std.specs.declared.result.Result.{Result}
 use Rattle.std.specs.declared.result.Result.the-variants.{Ok, Err}
 use Rattle.faults.specs.declared.Cause.the-variants.{TooManyDetails, HouseRefused, NoDetails, WrongTotal, TallyRefused, BytesAfter}
 use Rattle.faults.specs.declared.Fault.{Fault}
-use Rattle.fields.specs.Kinds.{answered}
+use Rattle.kinds.specs.Kinds.{answered}
 use Rattle.lines.specs.declared.Tag.{Tag}
 use Rattle.lines.specs.declared.Tag.the-variants.{Detail, Trailer as IsTrailer}
 use Rattle.trailers.specs.declared.Trailer.{Trailer}

@@ -3,7 +3,7 @@ ghost use mathlib.Core.Path.{_≡_};
 ghost use mathlib.Core.List.{List};
 ghost use Prim.Native.Nat.{_≤_};
 ghost use Rattle.faults.specs.declared.Cause.the-variants.{WrongTotal};
-ghost use Rattle.fields.specs.Kinds.{answered, mapOk};
+ghost use Rattle.kinds.specs.Kinds.{answered, mapOk};
 ghost use Rattle.faults.specs.Faults.{fault-at};
 ghost use Rattle.payments.specs.Payments.{payment-of};
 ghost use Rattle.tally.specs.Tallies.{tally-of};
@@ -16,12 +16,12 @@ use faults::Fault;
 use headers::Header;
 use houses::house::House;
 use houses::objection::Objection;
-use tally::Tally;
 use lines::Tag;
 use lines::cut_line;
 use lines::expect_header;
 use lines::expect_later;
 use payments::Payment;
+use tally::Tally;
 use trailers::Trailer;
 
 // The most details that a file may have are on the lines up to this one.

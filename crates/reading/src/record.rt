@@ -1,6 +1,6 @@
 // One record of a file, by its line.
 ghost use mathlib.Core.Path.{_≡_};
-ghost use Rattle.fields.specs.Kinds.{mapOk};
+ghost use Rattle.kinds.specs.Kinds.{mapOk};
 ghost use Rattle.reading.specs.Records.{record-of};
 ghost use Rattle.reading.specs.Worked.{Worked};
 ghost use Rattle.reading.specs.Reading.{rest-at, first-at, later-at, record-at};

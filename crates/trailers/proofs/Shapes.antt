@@ -4,10 +4,11 @@ use mathlib.Core.List.{List}
 use Prim.Native.Nat.{ℕ}
 use lib.ListN.{length}
 use Rattle.std.specs.declared.option.Option.the-variants.{None}
-use Rattle.fields.specs.Layouts.{AllLawful}
+use Rattle.kinds.specs.Layouts.{AllLawful}
 use Rattle.fields.specs.Laws.Fixed.{fixed-lawful}
-use Rattle.fields.specs.RoundTrips.{SpellsBack, ReadsBack}
-use Rattle.fields.proofs.Shapes.{number-lawful, read-spells, spelled-reads}
+use Rattle.fields.specs.Laws.Numbers.{number-lawful}
+use Rattle.kinds.specs.RoundTrips.{SpellsBack, ReadsBack}
+use Rattle.kinds.proofs.Shapes.{read-spells, spelled-reads}
 use Rattle.trailers.specs.declared.Trailer.{Trailer}
 use Rattle.trailers.specs.Trailers.{trailer-row, trailer-values, trailer-from, trailer-fault, trailer-value, trailer-wrong, trailer-bytes}
 

@@ -4,7 +4,7 @@ use Prim.Native.Nat.{ℕ}
 use lib.Chars.{codes}
 use Rattle.std.specs.declared.option.Option.{Option}
 use Rattle.faults.specs.declared.Fault.{Fault}
-use Rattle.fields.specs.Layouts.{Row, end, then, Values, start, first-fault, values, form-fault, spelled}
+use Rattle.kinds.specs.Layouts.{Row, end, then, Values, start, first-fault, values, form-fault, spelled}
 use Rattle.fields.specs.Numbers.{number-kind}
 use Rattle.fields.specs.Texts.{fixed-kind, blank}
 use Rattle.trailers.specs.declared.Trailer.{Trailer}

@@ -1,8 +1,8 @@
 // The columns of a trailer.
 use fields::fixed::Fixed;
-use fields::layout::End;
-use fields::layout::Then;
 use fields::number::Number;
+use kinds::layout::End;
+use kinds::layout::Then;
 
 // columns 21 to 120 of a trailer
 type TrailerEnd = Then<

@@ -3,8 +3,8 @@ ghost use mathlib.Core.Bool.{cond};
 ghost use mathlib.Core.Path.{_≡_};
 ghost use Rattle.std.specs.Results.{isOk};
 ghost use Rattle.std.specs.Vec.{made};
-ghost use Rattle.fields.specs.Kinds.{answered};
-ghost use Rattle.fields.specs.RoundTrips.{SpellsBack, ReadsBack};
+ghost use Rattle.kinds.specs.Kinds.{answered};
+ghost use Rattle.kinds.specs.RoundTrips.{SpellsBack, ReadsBack};
 ghost use Rattle.trailers.specs.Trailers.{trailer-fault, trailer-value, trailer-wrong, trailer-bytes};
 
 mod columns;
@@ -13,10 +13,10 @@ use crate::columns::TRAILER;
 use faults::Fault;
 use faults::Place;
 use fields::fixed::FixedField;
-use fields::layout::EndLayout;
-use fields::layout::Layout;
-use fields::layout::ThenLayout;
 use fields::number::NumberField;
+use kinds::layout::EndLayout;
+use kinds::layout::Layout;
+use kinds::layout::ThenLayout;
 
 #[derive(Clone, Copy)]
 pub struct Trailer {

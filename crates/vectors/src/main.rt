@@ -14,7 +14,6 @@ use houses::listed::Listed;
 use houses::listed::ListedHouse;
 use houses::plain::Plain;
 use houses::plain::PlainHouse;
-use tally::Tally;
 use reading::read::read;
 use reading::record::record;
 use reading::records::Record;
@@ -30,10 +29,11 @@ use std::io::BufWriter;
 use std::io::Read;
 use std::io::Write;
 use std::str::from_utf8;
+use tally::Tally;
 use words::Choice;
 use words::Unmade;
 use words::choose;
-use words::list_banks;
+use words::list_word;
 
 const CODES: [u64; 9] = [13, 50, 51, 52, 53, 54, 55, 56, 57];
 
@@ -134,6 +134,14 @@ fn print_unmade(out: &mut impl Write, why: Unmade) -> Result<(), AnyError> {
             Ok(())
         }
     }
+}
+
+// Puts each word after the first on the list.
+fn list_banks<'w>(list: &mut Book<'_, &'w [u8]>, words: &[&'w [u8]]) -> Result<(), Unmade> {
+    for word in words.iter().skip(1) {
+        list_word(list, word)?;
+    }
+    Ok(())
 }
 
 fn print_listed<'w>(

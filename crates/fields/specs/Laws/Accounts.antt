@@ -14,8 +14,8 @@ use Rattle.std.proofs.shelf.Elements.{all-append, all-drop}
 use Rattle.std.proofs.shelf.Lists.{length-append, length-replicate, length-drop, drop-at}
 use Rattle.std.proofs.shelf.Sums.{leading-le-length}
 use Rattle.std.proofs.shelf.Tests.{cases-bool, eqb-true, ltb-false, le-ltb, cond-true, cond-false}
-use Rattle.fields.specs.Kinds.{Lawful, fault}
-use Rattle.fields.specs.Laws.Admitted.{Passes, all-pass, passed-all, all-replicate, unless-true, unless-false}
+use Rattle.kinds.specs.Kinds.{Lawful, fault}
+use Rattle.kinds.specs.Admitted.{Passes, all-pass, passed-all, all-replicate, unless-true, unless-false}
 use Rattle.fields.specs.Texts.{account-kind, is-blank, account-byte, positive, first-blank, account-flaw, indent}
 
 -- no blank is found where there is none, wherever the account stands

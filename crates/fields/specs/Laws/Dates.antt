@@ -13,9 +13,9 @@ use Rattle.std.proofs.shelf.Tests.{and-from, and-parts, le-leb, leb-true, lt-lt
 use Rattle.fields.specs.declared.date.Date.{Date}
 use Rattle.faults.specs.declared.Cause.the-variants.{TooWide, NoSuchValue}
 use Rattle.faults.specs.Faults.{Misfit}
-use Rattle.fields.specs.Kinds.{Kind, Lawful, AllFrom, refused-from, fault}
+use Rattle.kinds.specs.Kinds.{Kind, Lawful, AllFrom, refused-from, fault}
 use Rattle.fields.specs.Numbers.{unless, digit, number-of, digits, bsb-kind, date-kind, date-of, a-day, days-in, leap, AllDigits}
-use Rattle.fields.specs.Laws.Admitted.{all-admitted, none-refused, all-append, all-weaker, all-at, all-part, unless-false}
+use Rattle.kinds.specs.Admitted.{all-admitted, none-refused, all-append, all-weaker, all-at, all-part, unless-false}
 use Rattle.fields.specs.Laws.Numbers.{length-digits, digits-read, digit-proper, digits-back, number-less, unless-none}
 
 -- the digits of a part that admits nothing else

@@ -9,9 +9,9 @@ use lib.ListN.{length, getD}
 use Rattle.std.specs.declared.option.Option.the-variants.{None}
 use Rattle.std.proofs.shelf.Lists.{ext-getD}
 use Rattle.std.proofs.shelf.Tests.{and-from, and-parts, eq-eqb, eqb-true, lt-ltb}
-use Rattle.fields.specs.Kinds.{Lawful}
+use Rattle.kinds.specs.Kinds.{Lawful}
 use Rattle.fields.specs.Texts.{fixed-kind}
-use Rattle.fields.specs.Laws.Admitted.{all-admitted, none-refused, all-at, all-from}
+use Rattle.kinds.specs.Admitted.{all-admitted, none-refused, all-at, all-from}
 
 pub fixed-lawful : (given : List ℕ) → Lawful (fixed-kind given)
 fixed-lawful given = record {

@@ -13,10 +13,11 @@ use Rattle.std.specs.declared.option.Option.the-variants.{Some, None}
 use Rattle.std.proofs.shelf.Lists.{take-more, take-all, length-take-le, drop-set, append-assoc}
 use Rattle.std.proofs.shelf.Tests.{and-from, and-parts, le-leb, leb-true, lt-ltb, ltb-true}
 use Rattle.faults.specs.declared.Cause.{Cause}
+use Rattle.faults.specs.declared.Cause.the-variants.{Empty}
 use Rattle.faults.specs.Faults.{Misfit}
-use Rattle.fields.specs.Kinds.{Kind, Lawful, AllFrom, refused-from}
-use Rattle.fields.specs.Numbers.{whole, unless, digit, number-from, number-of, digits, numeral, AllDigits}
-use Rattle.fields.specs.Laws.Admitted.{all-admitted, none-refused, all-append, all-left, all-right, unless-false}
+use Rattle.kinds.specs.Kinds.{Kind, Lawful, AllFrom, refused-from}
+use Rattle.fields.specs.Numbers.{whole, unless, digit, number-from, number-of, digits, numeral, number-kind, AllDigits}
+use Rattle.kinds.specs.Admitted.{all-admitted, none-refused, all-append, all-left, all-right, unless-false}
 
 from-append : (n : ℕ) (xs ys : List ℕ) → number-from n (xs ++ ys) ≡ number-from (number-from n xs) ys
 from-append n [] ys = refl
@@ -127,3 +128,6 @@ numeral-lawful w test cause =
           rw (lt-ltb (number-of bs) (10 ^ w) (number-less w bs long (p .0))) (p .1);
       written-back = λ bs long h. digits-back w bs long (none-refused _ 0 bs _ h .0);
     }
+
+pub number-lawful : (w least : ℕ) → Lawful (number-kind w least)
+number-lawful w least = numeral-lawful w (leb least) Empty

@@ -13,8 +13,8 @@ use Rattle.std.proofs.shelf.Elements.{all-append, all-take}
 use Rattle.std.proofs.shelf.Lists.{length-append, length-replicate, length-take-le, take-at, take-all, take-append-drop, getD-append-left, getD-take}
 use Rattle.std.proofs.shelf.Tests.{ne-eqb, eqb-false, ltb-false, le-ltb, cond-false}
 use Rattle.faults.specs.Faults.{Misfit}
-use Rattle.fields.specs.Kinds.{Lawful, fault}
-use Rattle.fields.specs.Laws.Admitted.{Passes, all-pass, passed-all, all-replicate, unless-true}
+use Rattle.kinds.specs.Kinds.{Lawful, fault}
+use Rattle.kinds.specs.Admitted.{Passes, all-pass, passed-all, all-replicate, unless-true}
 use Rattle.fields.specs.Laws.TextEnds.{end-stops, end-le, end-again, last-stands, blanks-follow, end-front, end-filled}
 use Rattle.fields.specs.Texts.{mark-kind, text-kind, is-blank, character, text-end, text-of, text-flaw}
 

@@ -3,7 +3,7 @@ use borrow.Author.Needs.{needs}
 use lib.ListN.{take}
 use Rattle.std.proofs.shelf.Lists.{take-rest}
 use Rattle.std.specs.declared.result.Result.the-variants.{Ok}
-use Rattle.fields.specs.Kinds.{answered}
+use Rattle.kinds.specs.Kinds.{answered}
 use Rattle.lines.specs.Lines.{cut}
 use Rattle.lines.proofs.LineEnds.{line-proper}
 use Rattle.lines.proofs.cut_line.Needs as need

@@ -4,7 +4,7 @@ use native.Mathlib.Omega.{arith}
 use lib.ListN.{length}
 use Rattle.std.specs.declared.result.Result.the-variants.{Err}
 use Rattle.std.proofs.shelf.Tests.{eqb-true, eqb-false}
-use Rattle.fields.specs.Kinds.{answered}
+use Rattle.kinds.specs.Kinds.{answered}
 use Rattle.book.proofs.Lasts.{no-last, not-above, is-above}
 use Rattle.book.proofs.rows.expect_above.Needs as need
 

@@ -2,10 +2,10 @@ use mathlib.Core.Path.{_≡_}
 use borrow.Author.Needs.{needs}
 use lib.ListN.{length}
 use Rattle.std.proofs.shelf.Results.{err-from-errBy}
-use Rattle.fields.proofs.Answers.{carried, came, refused}
-use Rattle.fields.specs.Layouts.{values}
+use Rattle.kinds.proofs.Answers.{carried, came, refused}
+use Rattle.kinds.specs.Layouts.{values}
 use Rattle.headers.specs.Headers.{header-row, header-from, header-fault, header-value, header-wrong, header-bytes}
-use Rattle.fields.specs.RoundTrips.{SpellsBack}
+use Rattle.kinds.specs.RoundTrips.{SpellsBack}
 use Rattle.headers.proofs.Shapes.{header-spells}
 use Rattle.headers.proofs.Header.read.Needs as need
 

@@ -1,4 +1,4 @@
-use Rattle.fields.proofs.Answers.{passed}
+use Rattle.kinds.proofs.Answers.{passed}
 use Rattle.headers.specs.Headers.{header-of, header-wrong}
 use Rattle.headers.proofs.Shapes.{header-reads}
 use Rattle.headers.proofs.Header.spell.Needs as need

@@ -1,8 +1,8 @@
 use mathlib.Core.Path.{_≡_, sym, ap, _∙_}
 use mathlib.Core.List.{map}
-use Rattle.fields.specs.Kinds.{answered}
-use Rattle.fields.specs.Layouts.{or-later}
-use Rattle.fields.proofs.Answers.{passed}
+use Rattle.kinds.specs.Kinds.{answered}
+use Rattle.kinds.specs.Layouts.{or-later}
+use Rattle.kinds.proofs.Answers.{passed}
 use Rattle.book.specs.Books.{rows-of, room-of, row-fault}
 use Rattle.houses.specs.Listed.{bank-of}
 use Rattle.houses.proofs.OnList.{map-either}

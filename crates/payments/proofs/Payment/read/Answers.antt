@@ -2,11 +2,11 @@ use mathlib.Core.Path.{_≡_}
 use borrow.Author.Needs.{needs}
 use lib.ListN.{length}
 use Rattle.std.proofs.shelf.Results.{err-from-errBy}
-use Rattle.fields.specs.Layouts.{first-fault}
-use Rattle.fields.proofs.Answers.{came, first-step, both-steps, passed}
-use Rattle.fields.specs.Layouts.{start}
+use Rattle.kinds.specs.Layouts.{first-fault}
+use Rattle.kinds.proofs.Answers.{came, first-step, both-steps, passed}
+use Rattle.kinds.specs.Layouts.{start}
 use Rattle.payments.specs.Payments.{payment-row, payment-fault, payment-value, payment-wrong, payment-bytes, tax-fault}
-use Rattle.fields.specs.RoundTrips.{SpellsBack}
+use Rattle.kinds.specs.RoundTrips.{SpellsBack}
 use Rattle.payments.proofs.Shapes.{payment-spells}
 use Rattle.payments.proofs.Payment.read.Needs as need
 

@@ -5,9 +5,9 @@ use Rattle.std.specs.declared.result.Result.{Result}
 use Rattle.std.specs.declared.result.Result.the-variants.{Ok, Err}
 use Rattle.faults.specs.declared.Fault.{Fault}
 use Rattle.std.proofs.shelf.Results.{err-from-errBy}
-use Rattle.fields.specs.Kinds.{answered}
-use Rattle.fields.specs.Layouts.{Values, first-fault, values}
-use Rattle.fields.specs.Layouts.{start}
+use Rattle.kinds.specs.Kinds.{answered}
+use Rattle.kinds.specs.Layouts.{Values, first-fault, values}
+use Rattle.kinds.specs.Layouts.{start}
 use Rattle.payments.specs.Payments.{payment-value}
 use Rattle.payments.proofs.Parts.{front-row, back-row, middle, by-front, by-back, by-both}
 use Rattle.payments.proofs.Payment.read_fields.Needs as need

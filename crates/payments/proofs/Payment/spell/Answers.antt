@@ -6,11 +6,11 @@ use Rattle.std.specs.declared.option.Option.{Option}
 use Rattle.std.specs.declared.option.Option.the-variants.{Some, None}
 use Rattle.std.proofs.shelf.Results.{err-from-errBy}
 use Rattle.faults.specs.declared.Fault.{Fault}
-use Rattle.fields.specs.Kinds.{answered}
-use Rattle.fields.specs.Layouts.{form-fault}
-use Rattle.fields.proofs.Answers.{passed, stopped}
-use Rattle.fields.proofs.Lists.{written-from}
-use Rattle.fields.specs.Layouts.{start}
+use Rattle.kinds.specs.Kinds.{answered}
+use Rattle.kinds.specs.Layouts.{form-fault}
+use Rattle.kinds.proofs.Answers.{passed, stopped}
+use Rattle.kinds.proofs.Lists.{written-from}
+use Rattle.kinds.specs.Layouts.{start}
 use Rattle.payments.specs.Payments.{PaymentOf, payment-of, payment-wrong}
 use Rattle.payments.proofs.Parts.{front-row, back-row, middle, front-values, back-values, wrong-at, parts-spelled}
 use Rattle.payments.proofs.Shapes.{payment-reads}

@@ -1,8 +1,8 @@
 use mathlib.Core.Path.{sym, _∙_}
 use lib.ListN.{getD}
 use Rattle.std.proofs.shelf.Results.{err-from-errBy}
-use Rattle.fields.specs.Kinds.{answered}
-use Rattle.fields.proofs.Answers.{refused, carried}
+use Rattle.kinds.specs.Kinds.{answered}
+use Rattle.kinds.proofs.Answers.{refused, carried}
 use Rattle.headers.specs.Headers.{header-fault, header-value}
 use Rattle.lines.specs.Lines.{head-fault}
 use Rattle.reading.specs.Records.{a-header}

@@ -4,8 +4,8 @@ use Prim.Native.Nat.{ℕ}
 use lib.ListN.{getD}
 use Rattle.std.specs.declared.result.Result.the-variants.{Ok}
 use Rattle.std.proofs.shelf.Results.{err-from-errBy}
-use Rattle.fields.specs.Kinds.{answered}
-use Rattle.fields.proofs.Answers.{refused, carried}
+use Rattle.kinds.specs.Kinds.{answered}
+use Rattle.kinds.proofs.Answers.{refused, carried}
 use Rattle.lines.specs.declared.Tag.{Tag}
 use Rattle.lines.specs.declared.Tag.the-variants.{Detail, Trailer}
 use Rattle.lines.specs.Lines.{tagged}

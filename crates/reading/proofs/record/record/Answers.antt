@@ -6,8 +6,8 @@ use lib.Dec.{eqb}
 use Rattle.std.specs.declared.result.Result.the-variants.{Ok, Err}
 use Rattle.std.proofs.shelf.Results.{err-from-errBy}
 use Rattle.std.proofs.shelf.Tests.{eq-eqb, ne-eqb, cond-true, cond-false}
-use Rattle.fields.specs.Kinds.{answered, mapOk}
-use Rattle.fields.proofs.Answers.{gave}
+use Rattle.kinds.specs.Kinds.{answered, mapOk}
+use Rattle.kinds.proofs.Answers.{gave}
 use Rattle.lines.specs.Lines.{line-fault, cut}
 use Rattle.reading.specs.Records.{record-of}
 use Rattle.reading.specs.Reading.{rest-at, first-at, later-at, record-at}

@@ -2,10 +2,10 @@ use mathlib.Core.Path.{_≡_}
 use borrow.Author.Needs.{needs}
 use lib.ListN.{length}
 use Rattle.std.proofs.shelf.Results.{err-from-errBy}
-use Rattle.fields.proofs.Answers.{carried, came, refused}
-use Rattle.fields.specs.Layouts.{values}
+use Rattle.kinds.proofs.Answers.{carried, came, refused}
+use Rattle.kinds.specs.Layouts.{values}
 use Rattle.trailers.specs.Trailers.{trailer-row, trailer-from, trailer-fault, trailer-value, trailer-wrong, trailer-bytes}
-use Rattle.fields.specs.RoundTrips.{SpellsBack}
+use Rattle.kinds.specs.RoundTrips.{SpellsBack}
 use Rattle.trailers.proofs.Shapes.{trailer-spells}
 use Rattle.trailers.proofs.Trailer.read.Needs as need
 

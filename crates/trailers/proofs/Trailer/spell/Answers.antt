@@ -1,4 +1,4 @@
-use Rattle.fields.proofs.Answers.{passed}
+use Rattle.kinds.proofs.Answers.{passed}
 use Rattle.trailers.specs.Trailers.{trailer-wrong}
 use Rattle.trailers.proofs.Shapes.{trailer-reads}
 use Rattle.trailers.proofs.Trailer.spell.Needs as need

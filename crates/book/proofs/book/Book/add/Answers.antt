@@ -9,8 +9,8 @@ use Rattle.std.specs.declared.result.Result.{Result}
 use Rattle.std.specs.declared.result.Result.the-variants.{Ok}
 use Rattle.std.proofs.shelf.Lists.{take-set, take-more-set, length-take-le}
 use Rattle.faults.specs.declared.Fault.{Fault}
-use Rattle.fields.specs.Kinds.{answered}
-use Rattle.fields.proofs.Answers.{passed}
+use Rattle.kinds.specs.Kinds.{answered}
+use Rattle.kinds.proofs.Answers.{passed}
 use Rattle.book.specs.declared.book.Row.{Row}
 use Rattle.book.specs.Books.{above-last}
 use Rattle.book.specs.Search.{Climbs}

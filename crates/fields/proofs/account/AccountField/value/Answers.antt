@@ -5,9 +5,9 @@ use lib.ListN.{length, take, drop}
 use Rattle.std.specs.declared.result.Result.the-variants.{Ok}
 use Rattle.std.proofs.shelf.Lists.{take-rest}
 use Rattle.std.proofs.shelf.Results.{err-from-errBy}
-use Rattle.fields.specs.Kinds.{answered, placedAt}
+use Rattle.kinds.specs.Kinds.{answered, placedAt}
 use Rattle.fields.specs.Texts.{account-flaw, indent}
-use Rattle.fields.proofs.Answers.{passed, stopped}
+use Rattle.kinds.proofs.Answers.{passed, stopped}
 use Rattle.fields.proofs.account.AccountField.value.Needs as need
 
 -- the part that begins at the indent

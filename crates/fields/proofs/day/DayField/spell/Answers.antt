@@ -5,7 +5,7 @@ use native.Mathlib.Omega.{arith}
 use borrow.Author.Needs.{needs}
 use lib.ListN.{length, drop, length-drop}
 use Rattle.fields.specs.Numbers.{digits}
-use Rattle.fields.proofs.Lists.{three-parts}
+use Rattle.kinds.proofs.Lists.{three-parts}
 use Rattle.fields.proofs.day.DayField.spell.Needs as need
 
 pub returns : need.returns

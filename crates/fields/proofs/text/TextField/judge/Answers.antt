@@ -8,8 +8,8 @@ use Rattle.faults.specs.declared.Cause.the-variants.{TooWide}
 use Rattle.fields.specs.Numbers.{whole}
 use Rattle.fields.specs.Texts.{character, text-flaw, ends-blank}
 use Rattle.fields.specs.Laws.Texts.{flaw-parts, flaw-later}
-use Rattle.fields.specs.Kinds.{answered, placedAt}
-use Rattle.fields.proofs.Answers.{passed, stopped, unplaced}
+use Rattle.kinds.specs.Kinds.{answered, placedAt}
+use Rattle.kinds.proofs.Answers.{passed, stopped, unplaced}
 use Rattle.fields.proofs.Judged.{reply, by-byte, past-bytes, by-flaw}
 use Rattle.fields.proofs.text.TextField.judge.Needs as need
 

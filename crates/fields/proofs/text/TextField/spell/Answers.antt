@@ -3,7 +3,7 @@ use mathlib.Core.List.{_++_}
 use Prim.Native.Nat.{_-_}
 use native.Mathlib.Omega.{arith}
 use lib.ListN.{length, replicate, length-take, length-drop, length-append}
-use Rattle.fields.proofs.Lists.{written-from, replicate-sized}
+use Rattle.kinds.proofs.Lists.{written-from, replicate-sized}
 use Rattle.fields.proofs.text.TextField.spell.Needs as need
 
 pub returns : need.returns

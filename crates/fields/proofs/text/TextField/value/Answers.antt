@@ -1,7 +1,7 @@
 use native.Mathlib.Omega.{arith}
 use lib.ListN.{length}
 use Rattle.fields.specs.Laws.TextEnds.{end-le}
-use Rattle.fields.proofs.Answers.{gave}
+use Rattle.kinds.proofs.Answers.{gave}
 use Rattle.fields.proofs.text.TextField.value.Needs as need
 
 pub part-result-end : need.part-result-end

@@ -1,0 +1,4 @@
+use Rattle.payments.proofs.Payment.judge.Needs as need
+
+pub returns : need.returns
+returns c = c .spell .ensures .answer
