@@ -1,4 +1,2 @@
-pub mod Balanced
 pub mod Laws
-pub mod Listed
 pub mod Rules

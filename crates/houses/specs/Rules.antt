@@ -26,3 +26,7 @@ pub record Sound (rules : Rules) : Type 0 where
 -- yes to all
 abbrev pub plain-rules : Rules
 plain-rules = record { header = λ _. None; payment = λ _. None; tally = λ _. None }
+
+-- no, for a reason and at a column
+abbrev pub no : ℕ → ℕ → Option Objection
+no reason column = Some (record { reason = reason; column = column })

@@ -1,13 +1,13 @@
 // Reads a file from standard input under a house that the arguments choose, and prints what is in it.
+use balanced::Balanced;
+use balanced::BalancedHouse;
 use book::book::Book;
 use book::book::Row;
-use houses::balanced::Balanced;
-use houses::balanced::BalancedHouse;
 use houses::house::House;
-use houses::listed::Listed;
-use houses::listed::ListedHouse;
 use houses::plain::Plain;
 use houses::plain::PlainHouse;
+use listed::Listed;
+use listed::ListedHouse;
 use reading::read::read;
 use reading::record::record;
 use reading::summary::Summary;

@@ -2,18 +2,18 @@
 // The answers that it is held to were made by the second implementation.
 mod cases;
 
+use balanced::Balanced;
+use balanced::BalancedHouse;
 use book::book::Book;
 use book::book::Row;
 use cases::Cases;
 use cases::split_words;
 use faults::Fault;
-use houses::balanced::Balanced;
-use houses::balanced::BalancedHouse;
 use houses::house::House;
-use houses::listed::Listed;
-use houses::listed::ListedHouse;
 use houses::plain::Plain;
 use houses::plain::PlainHouse;
+use listed::Listed;
+use listed::ListedHouse;
 use reading::read::read;
 use reading::record::record;
 use reading::records::Record;
@@ -179,6 +179,25 @@ fn print_under(
     }
 }
 
+// Prints the next case, unless there is none.
+fn print_next(
+    rt: &LibcRuntime,
+    out: &mut impl Write,
+    cases: &mut Cases,
+    file: &mut Vec<u8>,
+    number: u64,
+) -> Result<bool, AnyError> {
+    let Some(house) = cases.next_case()? else {
+        return Ok(false);
+    };
+    let mut words: Vec<&[u8]> = Vec::new(rt.alloc());
+    split_words(house, &mut words)?;
+    cases.file(file)?;
+    writeln!(out, "case {number}")?;
+    print_under(out, file, cases.lines()?, &words)?;
+    Ok(true)
+}
+
 fn run(rt: &LibcRuntime) -> Result<(), AnyError> {
     let heap = rt.alloc();
     let mut stored = Vec::new(heap);
@@ -187,14 +206,9 @@ fn run(rt: &LibcRuntime) -> Result<(), AnyError> {
     let mut out = BufWriter::new(rt.stdout());
     let mut file = Vec::new(heap);
     for number in 1..u64::MAX {
-        let Some(house) = cases.next_case()? else {
+        if !print_next(rt, &mut out, &mut cases, &mut file, number)? {
             break;
-        };
-        let mut words: Vec<&[u8]> = Vec::new(heap);
-        split_words(house, &mut words)?;
-        cases.file(&mut file)?;
-        writeln!(out, "case {number}")?;
-        print_under(&mut out, &file, cases.lines()?, &words)?;
+        }
     }
     out.flush()?;
     Ok(())

@@ -14,7 +14,7 @@ use Rattle.std.specs.Options.{mapped}
 use Rattle.std.proofs.shelf.Lists.{at-drop-more, take-rest}
 use Rattle.std.proofs.shelf.Ways.{tells}
 use Rattle.fields.specs.Numbers.{number-from}
-use Rattle.houses.specs.Listed.{BankOf}
+use Rattle.listed.specs.Listed.{BankOf}
 use Rattle.words.specs.Words.{said-after, number-said, before-equals, bank-said, balanced, settling, house-said, chosen}
 
 grows : (n : ℕ) (bs : List ℕ) → n ≤ number-from n bs

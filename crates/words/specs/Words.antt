@@ -18,7 +18,7 @@ use Rattle.kinds.specs.Layouts.{or-later}
 use Rattle.fields.specs.Numbers.{digit, number-from}
 use Rattle.book.specs.declared.book.Row.{Row}
 use Rattle.book.specs.Books.{row-fault}
-use Rattle.houses.specs.Listed.{BankOf, bank-wrong}
+use Rattle.listed.specs.Listed.{BankOf, bank-wrong}
 use Rattle.words.specs.declared.Choice.{Choice}
 use Rattle.words.specs.declared.Choice.the-variants.{Plain, Listed, Balanced}
 use Rattle.words.specs.declared.Unmade.{Unmade}

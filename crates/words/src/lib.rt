@@ -5,13 +5,13 @@ ghost use mathlib.Core.Path.{_≡_};
 ghost use Rattle.std.specs.Options.{mapped};
 ghost use Rattle.std.specs.Results.{isOk};
 ghost use Rattle.book.specs.Books.{rows-of, room-of};
-ghost use Rattle.houses.specs.Listed.{bank-of};
+ghost use Rattle.listed.specs.Listed.{bank-of};
 ghost use Rattle.words.specs.Words.{said-after, number-said, before-equals, bank-said, listing, with-said, house-of, settling, chosen};
 use book::book::Book;
 use book::book::Row;
 use faults::Fault;
-use houses::banks::list_bank;
 use houses::bytes::same;
+use listed::banks::list_bank;
 
 // A house and what it is made from, as the words say it.
 #[derive(Clone, Copy)]
