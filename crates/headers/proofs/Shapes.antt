@@ -15,7 +15,7 @@ use Rattle.headers.specs.Headers.{HeaderOf, header-row, header-values, header-
 
 pub header-lawful : AllLawful header-row
 header-lawful =
-    (fixed-lawful _, (fixed-lawful _, (fixed-lawful _, (text-lawful 3, (fixed-lawful _, (text-lawful 26, (number-lawful 6 0, (text-lawful 12, (date-lawful, (fixed-lawful _, tt))))))))))
+    (fixed-lawful _, (text-lawful 3, (fixed-lawful _, (text-lawful 26, (number-lawful 6 0, (text-lawful 12, (date-lawful, (fixed-lawful _, tt))))))))
 
 pub header-spells : (line : ℕ) (bs : List ℕ) → length bs ≡ 120 → header-fault line bs ≡ None → SpellsBack header-wrong header-bytes (header-value bs) bs
 header-spells = read-spells header-row header-lawful header-from header-values (λ w. refl) (λ v. refl)

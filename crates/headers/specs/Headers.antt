@@ -21,17 +21,17 @@ pub record HeaderOf : Type 0 where
 abbrev pub header-of : Header → HeaderOf
 header-of h = record { bank = h .bank .now; user-name = h .«user_name» .now; user-number = h .«user_number»; description = h .description .now; date = h .date }
 
--- columns 1; 2 to 18; 19 and 20; 21 to 23; 24 to 30; 31 to 56; 57 to 62; 63 to 74; 75 to 80; 81 to 120
+-- columns 1 to 20, in which 17 blanks stand between the record's 0 and the reel's 01; 21 to 23; 24 to 30; 31 to 56; 57 to 62; 63 to 74; 75 to 80; 81 to 120
 abbrev pub header-row : Row
 header-row =
-    then (fixed-kind (codes "0")) (then (blank 17) (then (fixed-kind (codes "01")) (then (text-kind 3) (then (blank 7)
-    (then (text-kind 26) (then (number-kind 6 0) (then (text-kind 12) (then date-kind (then (blank 40) end)))))))))
+    then (fixed-kind (codes "0                 01")) (then (text-kind 3) (then (blank 7)
+    (then (text-kind 26) (then (number-kind 6 0) (then (text-kind 12) (then date-kind (then (blank 40) end)))))))
 
 abbrev pub header-values : HeaderOf → Values header-row
-header-values h = (tt, (tt, (tt, (h .bank, (tt, (h .user-name, (h .user-number, (h .description, (h .date, (tt, tt))))))))))
+header-values h = (tt, (h .bank, (tt, (h .user-name, (h .user-number, (h .description, (h .date, (tt, tt))))))))
 
 abbrev pub header-from : Values header-row → HeaderOf
-header-from v = record { bank = v .1 .1 .1 .0; user-name = v .1 .1 .1 .1 .1 .0; user-number = v .1 .1 .1 .1 .1 .1 .0; description = v .1 .1 .1 .1 .1 .1 .1 .0; date = v .1 .1 .1 .1 .1 .1 .1 .1 .0 }
+header-from v = record { bank = v .1 .0; user-name = v .1 .1 .1 .0; user-number = v .1 .1 .1 .1 .0; description = v .1 .1 .1 .1 .1 .0; date = v .1 .1 .1 .1 .1 .1 .0 }
 
 -- the first fault of 120 bytes that are a header, and what they say where there is none
 abbrev pub header-fault : ℕ → List ℕ → Option Fault

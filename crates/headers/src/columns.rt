@@ -10,37 +10,31 @@ use kinds::layout::Then;
 type HeaderEnd = Then<Number<6, 0>, Then<Text<12>, Then<Day, Then<Fixed<40>, End>>>>;
 
 pub(crate) type HeaderLayout = Then<
-    Fixed<1>,
-    Then<Fixed<17>, Then<Fixed<2>, Then<Text<3>, Then<Fixed<7>, Then<Text<26>, HeaderEnd>>>>>,
+    Fixed<20>,
+    Then<Text<3>, Then<Fixed<7>, Then<Text<26>, HeaderEnd>>>,
 >;
 
 pub(crate) const HEADER: HeaderLayout = Then(
-    Fixed { bytes: b"0" },
+    Fixed {
+        bytes: b"0                 01",
+    },
     Then(
-        Fixed {
-            bytes: b"                 ",
-        },
+        Text,
         Then(
-            Fixed { bytes: b"01" },
+            Fixed { bytes: b"       " },
             Then(
                 Text,
                 Then(
-                    Fixed { bytes: b"       " },
+                    Number {},
                     Then(
                         Text,
                         Then(
-                            Number {},
+                            Day,
                             Then(
-                                Text,
-                                Then(
-                                    Day,
-                                    Then(
-                                        Fixed {
-                                            bytes: b"                                        ",
-                                        },
-                                        End,
-                                    ),
-                                ),
+                                Fixed {
+                                    bytes: b"                                        ",
+                                },
+                                End,
                             ),
                         ),
                     ),

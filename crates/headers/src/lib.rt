@@ -38,8 +38,10 @@ impl<'a> Header<'a> {
         ensures spelled_back { λ r. ⌜ made r (λ h. SpellsBack header-wrong header-bytes (header-of h) (now (columns .entry))) ⌝ }
     {
         let bytes: &[u8] = columns;
-        let (_, (_, (_, (bank, (_, (user_name, (user_number, (description, (date, _))))))))) =
-            HEADER.read(bytes, Place { line, column: 1 })?;
+        let (_, (bank, (_, (user_name, (user_number, (description, (date, _))))))) = HEADER.read(
+            bytes,
+            Place { line, column: 1 },
+        )?;
         Ok(Header {
             bank,
             user_name,
@@ -65,7 +67,7 @@ impl<'a> Header<'a> {
         let mut record = *out;
         let bytes: &mut [u8] = &mut record;
         let rest = (self.user_number, (self.description, (self.date, ((), ()))));
-        let fields = ((), ((), ((), (self.bank, ((), (self.user_name, rest))))));
+        let fields = ((), (self.bank, ((), (self.user_name, rest))));
         HEADER.spell(fields, Place { line: 0, column: 1 }, bytes)?;
         *out = record;
         Ok(())

@@ -34,12 +34,12 @@ fits-number w n h = grind (arith, tells)
 trailer-fits : (t : Trailer) → trailer-wrong t ≡ None → (t .credit < 10 ^ 10) × (t .debit < 10 ^ 10) × (t .count < 10 ^ 6)
 trailer-fits t h =
     let each = round-trip trailer-row trailer-lawful .judged (start 0) (trailer-values t) h in
-    (number-fits 10 (t .credit) (each .1 .1 .1 .1 .0), number-fits 10 (t .debit) (each .1 .1 .1 .1 .1 .0), number-fits 6 (t .count) (each .1 .1 .1 .1 .1 .1 .1 .0))
+    (number-fits 10 (t .credit) (each .1 .1 .0), number-fits 10 (t .debit) (each .1 .1 .1 .0), number-fits 6 (t .count) (each .1 .1 .1 .1 .1 .0))
 
 fits-trailer : (t : Trailer) → t .net < 10 ^ 10 → t .credit < 10 ^ 10 → t .debit < 10 ^ 10 → t .count < 10 ^ 6 → trailer-wrong t ≡ None
 fits-trailer t net credit debit count =
     round-trip trailer-row trailer-lawful .unjudged (start 0) (trailer-values t)
-    (refl, (refl, (refl, (fits-number 10 (t .net) net, (fits-number 10 (t .credit) credit, (fits-number 10 (t .debit) debit, (refl, (fits-number 6 (t .count) count, (refl, tt)))))))))
+    (refl, (fits-number 10 (t .net) net, (fits-number 10 (t .credit) credit, (fits-number 10 (t .debit) debit, (refl, (fits-number 6 (t .count) count, (refl, tt)))))))
 
 -- when none of the closing refusals comes
 some-since : (line : ℕ) (ps : List PaymentOf) → none-fault line ps ≡ None → 1 ≤ length ps

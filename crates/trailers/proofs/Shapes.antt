@@ -14,7 +14,7 @@ use Rattle.trailers.specs.Trailers.{trailer-row, trailer-values, trailer-from,
 
 pub trailer-lawful : AllLawful trailer-row
 trailer-lawful =
-    (fixed-lawful _, (fixed-lawful _, (fixed-lawful _, (number-lawful 10 0, (number-lawful 10 0, (number-lawful 10 0, (fixed-lawful _, (number-lawful 6 0, (fixed-lawful _, tt)))))))))
+    (fixed-lawful _, (number-lawful 10 0, (number-lawful 10 0, (number-lawful 10 0, (fixed-lawful _, (number-lawful 6 0, (fixed-lawful _, tt)))))))
 
 pub trailer-spells : (line : ℕ) (bs : List ℕ) → length bs ≡ 120 → trailer-fault line bs ≡ None → SpellsBack trailer-wrong trailer-bytes (trailer-value bs) bs
 trailer-spells = read-spells trailer-row trailer-lawful trailer-from trailer-values (λ w. refl) (λ v. refl)

@@ -13,35 +13,29 @@ type TrailerEnd = Then<
     >,
 >;
 
-pub(crate) type TrailerLayout = Then<Fixed<1>, Then<Fixed<7>, Then<Fixed<12>, TrailerEnd>>>;
+pub(crate) type TrailerLayout = Then<Fixed<20>, TrailerEnd>;
 
 pub(crate) const TRAILER: TrailerLayout = Then(
-    Fixed { bytes: b"7" },
+    Fixed {
+        bytes: b"7999-999            ",
+    },
     Then(
-        Fixed { bytes: b"999-999" },
+        Number {},
         Then(
-            Fixed {
-                bytes: b"            ",
-            },
+            Number {},
             Then(
                 Number {},
                 Then(
-                    Number {},
+                    Fixed {
+                        bytes: b"                        ",
+                    },
                     Then(
                         Number {},
                         Then(
                             Fixed {
-                                bytes: b"                        ",
+                                bytes: b"                                        ",
                             },
-                            Then(
-                                Number {},
-                                Then(
-                                    Fixed {
-                                        bytes: b"                                        ",
-                                    },
-                                    End,
-                                ),
-                            ),
+                            End,
                         ),
                     ),
                 ),

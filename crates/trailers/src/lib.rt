@@ -33,7 +33,7 @@ impl Trailer {
         ensures spelled_back { λ r. ⌜ made r (λ t. SpellsBack trailer-wrong trailer-bytes t (now (columns .entry))) ⌝ }
     {
         let bytes: &[u8] = columns;
-        let (_, (_, (_, (net, (credit, (debit, (_, (count, _)))))))) = TRAILER.read(
+        let (_, (net, (credit, (debit, (_, (count, _)))))) = TRAILER.read(
             bytes,
             Place { line, column: 1 },
         )?;
@@ -54,7 +54,7 @@ impl Trailer {
         let mut record = *out;
         let bytes: &mut [u8] = &mut record;
         let rest = (self.debit, ((), (self.count, ((), ()))));
-        let fields = ((), ((), ((), (self.net, (self.credit, rest)))));
+        let fields = ((), (self.net, (self.credit, rest)));
         TRAILER.spell(fields, Place { line: 0, column: 1 }, bytes)?;
         *out = record;
         Ok(())
