@@ -1,4 +1,7 @@
 // The balanced house settles each file through one account, which the file's last payment names.
+
+#![tactic(auto)]
+
 ghost use Rattle.std.specs.Prelude.{◌≡◌, ℕ, ◌+◌, ◌^◌, ◌<◌, List};
 ghost use Rattle.kinds.specs.Kinds.{answered, map_ok};
 ghost use Rattle.balanced.specs.Balanced.{balanced_rules, balanced_wrong, in_text};

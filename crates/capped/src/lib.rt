@@ -1,4 +1,7 @@
 // An example of a house: no payment is above a limit.
+
+#![tactic(auto)]
+
 ghost use Rattle.capped.specs.Capped.{capped_rules, capped_sound};
 
 use headers::Header;

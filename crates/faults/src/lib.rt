@@ -1,4 +1,7 @@
 // What is wrong, and where: one type from the field to the file.
+
+#![tactic(auto)]
+
 ghost use Rattle.std.specs.Prelude.{◌≡◌, ◌+◌, ◌<◌, ◌^◌};
 ghost use Rattle.faults.specs.Faults.{number, layer, placed, right};
 

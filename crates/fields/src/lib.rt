@@ -1,4 +1,7 @@
 // The fields of a Direct Entry record: what may stand in one, what it means, how it is spelled, and what is wrong with it.
+
+#![tactic(auto)]
+
 pub mod account;
 pub mod bsb;
 pub mod code;

@@ -1,4 +1,7 @@
 // The record that begins a file: who pays, for what, and on which day.
+
+#![tactic(auto)]
+
 ghost use Rattle.std.specs.Prelude.{◌≡◌, is_ok, IfOk, if◌then◌else◌, OnOk};
 ghost use Rattle.kinds.specs.Kinds.{answered, map_ok};
 ghost use Rattle.kinds.specs.RoundTrips.{SpellsBack, ReadsBack};

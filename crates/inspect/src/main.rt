@@ -1,4 +1,7 @@
 // Reads a file from standard input under a house that the arguments choose, and prints what is in it.
+
+#![tactic(auto)]
+
 use anyhow::anyhow;
 use balanced::Balanced;
 use book::book::{Book, Row};

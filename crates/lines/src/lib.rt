@@ -1,4 +1,7 @@
 // One line of a file: its 120 columns, and which record they are.
+
+#![tactic(auto)]
+
 ghost use Rattle.std.specs.Prelude.{◌≡◌, slice_index};
 ghost use Rattle.kinds.specs.Kinds.{answered, map_ok};
 ghost use Rattle.lines.specs.Lines.{line_fault, head_fault, tagged, no_record, cut, cut_of};

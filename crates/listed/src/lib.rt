@@ -1,4 +1,7 @@
 // The listed house knows the banks of a list.
+
+#![tactic(auto)]
+
 ghost use Rattle.std.specs.Prelude.{◌≡◌, map};
 ghost use Rattle.book.specs.Books.{rows_of};
 ghost use Rattle.listed.specs.Laws.{listed_sound};

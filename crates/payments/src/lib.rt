@@ -1,4 +1,7 @@
 // One payment of a file, as its detail record says it.
+
+#![tactic(auto)]
+
 ghost use Rattle.std.specs.Prelude.{◌≡◌, is_ok, IfOk, if◌then◌else◌, OnOk};
 ghost use Rattle.kinds.specs.Kinds.{answered, map_ok};
 ghost use Rattle.kinds.specs.Layouts.{start, first_fault};

@@ -117,7 +117,7 @@ module _ (R : Rules) (file : List ℕ) (line : ℕ) (rest : List ℕ) (t : Tally
     module _ (k : Ok Detail ≡ tagged line (get_or cols 0 0)) where
       -- the line after the last that a detail may stand on
       pub too_many : 1000001 ≤ line → Err (fault_at TooManyDetails line 1) ≡ map_ok summed (read_of R file)
-      too_many past-most =
+      too_many past_most =
           let none : 1000001 - line ≡ 0 = omega (arith, s.most) in
           ap (map_ok summed) (tag_here R line rest s.payments (Err (fault_at TooManyDetails line 1)) (Ok Detail) whole_line (tagged_so (Ok Detail) k)
           ∙ sym (s.reading ∙ ap (λ left. details R left line s.payments rest) none))

@@ -1,4 +1,7 @@
 // Reading a file: one record by its line, or all of it.
+
+#![tactic(auto)]
+
 pub mod read;
 pub mod record;
 pub mod records;

@@ -1,3 +1,6 @@
 // How answers are printed.
+
+#![tactic(auto)]
+
 pub mod answer;
 pub mod record;

@@ -1,4 +1,7 @@
 // Reads a file from standard input under the plain house, and prints one line.
+
+#![tactic(auto)]
+
 use houses::plain::Plain;
 use reading::read::read;
 use reading::summary::Summary;

@@ -1,4 +1,7 @@
 // What payments come to, code by code: how a tally is made, grows and is summed.
+
+#![tactic(auto)]
+
 ghost use Rattle.std.specs.Prelude.{◌≡◌, []};
 ghost use Rattle.tally.specs.Tallies.{one_more, place_of, rows_cents, rows_count, rows_credit, rows_debit, side_count, tallied, tally_of, with_payment};
 ghost use Rattle.payments.specs.Payments.{payment_of};

@@ -1,4 +1,7 @@
 // The record that ends a file: what the details come to.
+
+#![tactic(auto)]
+
 ghost use Rattle.std.specs.Prelude.{◌≡◌, is_ok, IfOk, if◌then◌else◌, OnOk};
 ghost use Rattle.kinds.specs.Kinds.{answered};
 ghost use Rattle.kinds.specs.RoundTrips.{SpellsBack, ReadsBack};

@@ -1,5 +1,8 @@
 // Runs stored files through `read` and `record`, and prints what they answer.
 // The answers that it is held to were made by the second implementation.
+
+#![tactic(auto)]
+
 mod cases;
 
 use anyhow::anyhow;

@@ -1,4 +1,7 @@
 // A house chosen by words, as on a command line.
+
+#![tactic(auto)]
+
 ghost use Rattle.std.specs.Prelude.{◌≡◌, [], ◌∷◌, map, is_ok, if◌then◌else◌};
 ghost use Rattle.std.specs.Option.{option_map};
 ghost use Rattle.book.specs.Books.{rows_of, room_of};

@@ -5,4 +5,4 @@ use Rattle.listed.proofs.OnList.{found_listed}
 use Rattle.listed.proofs.has_bank.Goals as goal
 
 pub returns : goal.returns
-returns c = c.is-some.ensures ∙ found_listed (bank_digits c.args.bsb) (rows_of c.args.list.now) _ c.find.ensures
+returns c = c.is_some.ensures ∙ found_listed (bank_digits c.args.bsb) (rows_of c.args.list.now) _ c.find.ensures

@@ -5,14 +5,14 @@ use Rattle.words.specs.Words.{said_after}
 use Rattle.words.proofs.Said.{read_on, read_out}
 use Rattle.words.proofs.number.Goals as goal
 
-pub returns-in-err-n : goal.returns-in-err-n
-returns-in-err-n c =
-    let out = read_out c.args.digits.now c.loop-b.b-index c.loop-b.n c.loop-b-test.true c.in-err-n.ensures in
+pub returns-in_err-n : goal.returns-in_err-n
+returns-in_err-n c =
+    let out = read_out c.args.digits.now c.loop-b.b-index c.loop-b.n c.loop-b-test.true c.in_err-n.ensures in
     cc
 
 pub loop-b-preserved : goal.loop-b-preserved
 loop-b-preserved c =
-    let next = c.in-ok-n.ensures in
+    let next = c.in_ok-n.ensures in
     let on = read_on c.args.digits.now c.loop-b.b-index c.loop-b.n c.loop-b-test.true _ next in
     (cc, grind (arith, nat_tests))
 

@@ -5,14 +5,14 @@ use Rattle.fields.specs.Laws.Numbers.{number_more, number_below, digit_at}
 use Rattle.fields.proofs.number.number_of.Goals as goal
 
 -- the number so far has at most 17 digits
-pub overflow-mul-n : goal.overflow-mul-n
-overflow-mul-n c = omega (arith, c.loop-b.invariant, number_below c.args.bytes.now c.requires.digits c.loop-b.b-index 17 (omega arith) (omega arith))
+pub overflow_mul-n : goal.overflow_mul-n
+overflow_mul-n c = omega (arith, c.loop-b.invariant, number_below c.args.bytes.now c.requires.digits c.loop-b.b-index 17 (omega arith) (omega arith))
 
-pub overflow-sub-n : goal.overflow-sub-n
-overflow-sub-n c = (digit_at c.args.bytes.now c.requires.digits c.loop-b.b-index c.loop-b-test.true).0
+pub overflow_sub-n : goal.overflow_sub-n
+overflow_sub-n c = (digit_at c.args.bytes.now c.requires.digits c.loop-b.b-index c.loop-b-test.true).0
 
-pub overflow-add-n : goal.overflow-add-n
-overflow-add-n c =
+pub overflow_add-n : goal.overflow_add-n
+overflow_add-n c =
     let less = number_below c.args.bytes.now c.requires.digits c.loop-b.b-index 17 (omega arith) (omega arith) in
     let digit = digit_at c.args.bytes.now c.requires.digits c.loop-b.b-index c.loop-b-test.true in
     omega (arith, c.loop-b.invariant)

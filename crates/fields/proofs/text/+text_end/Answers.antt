@@ -8,7 +8,7 @@ use Rattle.fields.proofs.text.+text_end.Goals.{else-columns-gt0-via-then-columns
 pub returns-then-field-columns-eq32 : goal.returns-then-field-columns-eq32
 returns-then-field-columns-eq32 t c = record {
   within = omega arith;
-  ends = c.text-end.ensures.ends ∙ sym (end_passes c.args.field.now c.args.columns _ (omega arith) c.if-field-columns-eq32.true);
+  ends = c.text_end.ensures.ends ∙ sym (end_passes c.args.field.now c.args.columns _ (omega arith) c.if-field-columns-eq32.true);
 }
 
 pub returns-else-columns-gt0 : goal.returns-else-columns-gt0

@@ -1,4 +1,4 @@
 use Rattle.fields.proofs.text.+text_end.Given as goal
 
-abbrev pub decreases-text-end : goal.decreases-text-end
-decreases-text-end l = l.columns
+abbrev pub decreases-text_end : goal.decreases-text_end
+decreases-text_end l = l.columns

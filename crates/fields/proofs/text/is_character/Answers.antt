@@ -8,7 +8,7 @@ returns-then-byte-lt32 c =
     let outside : in_range c.args.byte ≡ false = grind (arith, nat_tests) in
     sym outside ∙ is_character c.args.byte (omega arith)
 
-pub returns-in-default : goal.returns-in-default
-returns-in-default c =
+pub returns-in_default : goal.returns-in_default
+returns-in_default c =
     let within : in_range c.args.byte ≡ true = grind (arith, nat_tests) in
     sym within ∙ is_character c.args.byte (omega arith)

@@ -11,7 +11,7 @@ pub returns : goal.returns
 returns c =
     let list = c.args.list.now in
     record {
-      answer = c.add.ensures.answer ∙ sym (ap (λ o. answered (or_later o (row_fault (rows_of list) (room_of list) c.args.number)) tt) (passed _ _ _ c.in-ok-judge-bank.ensures));
+      answer = c.add.ensures.answer ∙ sym (ap (λ o. answered (or_later o (row_fault (rows_of list) (room_of list) c.args.number)) tt) (passed _ _ _ c.in_ok-judge_bank.ensures));
       room = c.add.ensures.room;
       after = ap (map bank_of) c.add.ensures.after ∙ map_either _ (rows_of list) _;
     }

@@ -9,13 +9,13 @@ use Rattle.payments.proofs.Shapes.{payment_spells}
 use Rattle.payments.proofs.Payment.read.Goals as goal
 
 -- a payment whose fields are at fault is not read
-pub returns-in-err-payment : goal.returns-in-err-payment
-returns-in-err-payment c =
-    let p = err_from_is_err_and c.from-residual.result c.from-residual.ensures.1 in
+pub returns-in_err-payment : goal.returns-in_err-payment
+returns-in_err-payment c =
+    let p = err_from_is_err_and c.from_residual.result c.from_residual.ensures.1 in
     let line = c.args.line in
     let bs = c.args.columns.now in
     rw (p.1, p.2) (record {
-      answer = first_step (first_fault payment_row (start line) bs) (payment_value bs) (tax_fault line) _ c.in-err-payment.ensures;
+      answer = first_step (first_fault payment_row (start line) bs) (payment_value bs) (tax_fault line) _ c.in_err-payment.ensures;
       spelled_back = tt;
     })
 
@@ -24,7 +24,7 @@ returns c =
     let line = c.args.line in
     let bs = c.args.columns.now in
     let long : length bs ≡ 120 = search rules in
-    let answer = both_steps (first_fault payment_row (start line) bs) (payment_value bs) (tax_fault line) _ c.in-ok-payment.ensures (passed _ _ _ c.in-ok-judge-tax.ensures) in
+    let answer = both_steps (first_fault payment_row (start line) bs) (payment_value bs) (tax_fault line) _ c.in_ok-payment.ensures (passed _ _ _ c.in_ok-judge_tax.ensures) in
     record {
       answer = answer;
       spelled_back = came (λ v. SpellsBack payment_wrong payment_bytes v bs) (payment_fault line bs) (payment_value bs) _ answer (payment_spells line bs long);

@@ -9,24 +9,24 @@ use Rattle.reading.specs.Records.{a_header}
 use Rattle.reading.proofs.Steps.{past_here}
 use Rattle.reading.proofs.record.first_record.Goals as goal
 
-pub returns-in-err-expect-header : goal.returns-in-err-expect-header
-returns-in-err-expect-header c =
-    let p = err_from_is_err_and c.from-residual.result c.from-residual.ensures.1 in
+pub returns-in_err-expect_header : goal.returns-in_err-expect_header
+returns-in_err-expect_header c =
+    let p = err_from_is_err_and c.from_residual.result c.from_residual.ensures.1 in
     let line = c.args.line in
     let bs = c.args.columns.now in
-    rw (p.1, p.2) (sym (ap (λ o. past o (answered (header_fault line bs) (a_header (header_value bs)))) (stopped (head_fault line (get_or bs 0 0)) tt _ c.in-err-expect-header.ensures)))
+    rw (p.1, p.2) (sym (ap (λ o. past o (answered (header_fault line bs) (a_header (header_value bs)))) (stopped (head_fault line (get_or bs 0 0)) tt _ c.in_err-expect_header.ensures)))
 
-pub returns-in-err-header : goal.returns-in-err-header
-returns-in-err-header c =
-    let p = err_from_is_err_and c.from-residual-in-err-header.result c.from-residual-in-err-header.ensures.1 in
+pub returns-in_err-header : goal.returns-in_err-header
+returns-in_err-header c =
+    let p = err_from_is_err_and c.from_residual-in_err-header.result c.from_residual-in_err-header.ensures.1 in
     let line = c.args.line in
     let bs = c.args.columns.now in
-    let then = past_here (head_fault line (get_or bs 0 0)) tt (answered (header_fault line bs) (a_header (header_value bs))) _ c.in-ok-expect-header.ensures in
-    rw (p.1, p.2) (refused (header_fault line bs) (header_value bs) (a_header (header_value bs)) _ c.in-err-header.ensures.answer ∙ sym then)
+    let then = past_here (head_fault line (get_or bs 0 0)) tt (answered (header_fault line bs) (a_header (header_value bs))) _ c.in_ok-expect_header.ensures in
+    rw (p.1, p.2) (refused (header_fault line bs) (header_value bs) (a_header (header_value bs)) _ c.in_err-header.ensures.answer ∙ sym then)
 
 pub returns : goal.returns
 returns c =
     let line = c.args.line in
     let bs = c.args.columns.now in
-    let then = past_here (head_fault line (get_or bs 0 0)) tt (answered (header_fault line bs) (a_header (header_value bs))) _ c.in-ok-expect-header.ensures in
-    carried a_header (header_fault line bs) (header_value bs) _ c.in-ok-header.ensures.answer ∙ sym then
+    let then = past_here (head_fault line (get_or bs 0 0)) tt (answered (header_fault line bs) (a_header (header_value bs))) _ c.in_ok-expect_header.ensures in
+    carried a_header (header_fault line bs) (header_value bs) _ c.in_ok-header.ensures.answer ∙ sym then

@@ -20,28 +20,28 @@ module _ (line : ℕ) (bs : List ℕ) (tag : Tag) (h : Ok tag ≡ tagged line (g
   as_trailer : tag ≡ Trailer → answered (trailer_fault line bs) (a_trailer (trailer_value bs)) ≡ later_at line bs
   as_trailer e = sym (a_trailer_here (tagged line (get_or bs 0 0)) tag _ _ h e)
 
-pub returns-in-err-payment : goal.returns-in-err-payment
-returns-in-err-payment c =
-    let p = err_from_is_err_and c.from-residual-in-err-payment.result c.from-residual-in-err-payment.ensures.1 in
+pub returns-in_err-payment-in-Detail : goal.returns-in_err-payment-in-Detail
+returns-in_err-payment-in-Detail c =
+    let p = err_from_is_err_and c.from_residual-in_err-payment-in-Detail.result c.from_residual-in_err-payment-in-Detail.ensures.1 in
     let line = c.args.line in
     let bs = c.args.columns.now in
-    rw (p.1, p.2) (refused (payment_fault line bs) (payment_value bs) (a_detail (payment_value bs)) _ c.in-err-payment.ensures.answer ∙ as_detail line bs _ c.in-ok-expect-later.ensures c.in-Detail.is)
+    rw (p.1, p.2) (refused (payment_fault line bs) (payment_value bs) (a_detail (payment_value bs)) _ c.in_err-payment-in-Detail.ensures.answer ∙ as_detail line bs _ c.in_ok-expect_later.ensures c.in-Detail.is)
 
-pub returns-in-err-trailer : goal.returns-in-err-trailer
-returns-in-err-trailer c =
-    let p = err_from_is_err_and c.from-residual-in-err-trailer.result c.from-residual-in-err-trailer.ensures.1 in
+pub returns-in_err-trailer-in-Trailer : goal.returns-in_err-trailer-in-Trailer
+returns-in_err-trailer-in-Trailer c =
+    let p = err_from_is_err_and c.from_residual-in_err-trailer-in-Trailer.result c.from_residual-in_err-trailer-in-Trailer.ensures.1 in
     let line = c.args.line in
     let bs = c.args.columns.now in
-    rw (p.1, p.2) (refused (trailer_fault line bs) (trailer_value bs) (a_trailer (trailer_value bs)) _ c.in-err-trailer.ensures.answer ∙ as_trailer line bs _ c.in-ok-expect-later.ensures c.in-Trailer.is)
+    rw (p.1, p.2) (refused (trailer_fault line bs) (trailer_value bs) (a_trailer (trailer_value bs)) _ c.in_err-trailer-in-Trailer.ensures.answer ∙ as_trailer line bs _ c.in_ok-expect_later.ensures c.in-Trailer.is)
 
-pub returns-in-ok-payment : goal.returns-in-ok-payment
-returns-in-ok-payment c =
+pub returns-in_ok-payment-in-Detail : goal.returns-in_ok-payment-in-Detail
+returns-in_ok-payment-in-Detail c =
     let line = c.args.line in
     let bs = c.args.columns.now in
-    carried a_detail (payment_fault line bs) (payment_value bs) _ c.in-ok-payment.ensures.answer ∙ as_detail line bs _ c.in-ok-expect-later.ensures c.in-Detail.is
+    carried a_detail (payment_fault line bs) (payment_value bs) _ c.in_ok-payment-in-Detail.ensures.answer ∙ as_detail line bs _ c.in_ok-expect_later.ensures c.in-Detail.is
 
-pub returns-in-ok-trailer : goal.returns-in-ok-trailer
-returns-in-ok-trailer c =
+pub returns-in_ok-trailer-in-Trailer : goal.returns-in_ok-trailer-in-Trailer
+returns-in_ok-trailer-in-Trailer c =
     let line = c.args.line in
     let bs = c.args.columns.now in
-    carried a_trailer (trailer_fault line bs) (trailer_value bs) _ c.in-ok-trailer.ensures.answer ∙ as_trailer line bs _ c.in-ok-expect-later.ensures c.in-Trailer.is
+    carried a_trailer (trailer_fault line bs) (trailer_value bs) _ c.in_ok-trailer-in-Trailer.ensures.answer ∙ as_trailer line bs _ c.in_ok-expect_later.ensures c.in-Trailer.is

@@ -21,24 +21,24 @@ module _ (line : ℕ) (file rest bs after : List ℕ) (at : rest ≡ rest_at fil
   later : (line ≡ 1 → ⊥) → later_at line bs ≡ record_at line (rest_at file line)
   later e = sym (ap (record_at line) (sym at) ∙ whole ∙ cond-false _ _ _ (ne_eqb line 1 e))
 
-pub returns-in-err-columns : goal.returns-in-err-columns
-returns-in-err-columns c =
-    let p = err_from_is_err_and c.from-residual.result c.from-residual.ensures.1 in
+pub returns-in_err-columns : goal.returns-in_err-columns
+returns-in_err-columns c =
+    let p = err_from_is_err_and c.from_residual.result c.from_residual.ensures.1 in
     let line = c.args.line in
-    let rest = c.rest-at.result.now in
+    let rest = c.rest_at.result.now in
     record {
-      answer = ap (map_ok record_of) (p.1 ∙ ap Err p.2) ∙ refused_here (line_fault line rest) (cut rest) _ _ c.in-err-columns.ensures ∙ ap (record_at line) c.rest-at.ensures;
+      answer = ap (map_ok record_of) (p.1 ∙ ap Err p.2) ∙ refused_here (line_fault line rest) (cut rest) _ _ c.in_err-columns.ensures ∙ ap (record_at line) c.rest_at.ensures;
       worked = worked;
     }
 
 pub returns-then-line-eq1 : goal.returns-then-line-eq1
 returns-then-line-eq1 c = record {
-  answer = c.first-record.ensures ∙ first c.args.line c.args.file.now _ _ _ c.rest-at.ensures c.in-ok-columns.ensures c.if-line-eq1.true;
+  answer = c.first_record.ensures ∙ first c.args.line c.args.file.now _ _ _ c.rest_at.ensures c.in_ok-columns.ensures c.if-line-eq1.true;
   worked = worked;
 }
 
 pub returns-else-line-eq1 : goal.returns-else-line-eq1
 returns-else-line-eq1 c = record {
-  answer = c.later-record.ensures ∙ later c.args.line c.args.file.now _ _ _ c.rest-at.ensures c.in-ok-columns.ensures c.if-line-eq1.false;
+  answer = c.later_record.ensures ∙ later c.args.line c.args.file.now _ _ _ c.rest_at.ensures c.in_ok-columns.ensures c.if-line-eq1.false;
   worked = worked;
 }

@@ -6,9 +6,9 @@ use Rattle.trailers.proofs.Trailer.spell.Goals as goal
 pub returns : goal.returns
 returns c =
     let v = c.args.self.now in
-    let said = c.in-ok-spell.ensures in
+    let said = c.in_ok-spell.ensures in
     record {
       answer = said.answer;
       after = said.after;
-      reads-back = trailer_reads v c.spell.new.out said.after (passed (trailer_wrong v) tt tt said.answer);
+      reads_back = trailer_reads v c.spell.new.out said.after (passed (trailer_wrong v) tt tt said.answer);
     }

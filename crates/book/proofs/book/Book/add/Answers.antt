@@ -18,25 +18,25 @@ module _ {V : Type 0} (rows : List (Row V)) (used : ℕ) (row : Row V) (room : u
   held_more : above_last (take used rows) row.number ≡ None → ∥ Climbs key_of (take (used + 1) (set rows used row)) ∥₁
   held_more above = ∥∥₁_map held (λ climbs. subst (Climbs key_of) (sym (take_more_set rows used row room)) (climbs_on (take used rows) row climbs above))
 
-pub invariant-of-self : goal.invariant-of-self
-invariant-of-self g c =
+pub invariant_of-self : goal.invariant_of-self
+invariant_of-self g c =
     let book = c.args.self.now in
     let rows = book.rows.now in
     (omega (arith, length-set rows book.used c.args.row), (held_still rows book.used c.args.row c.if-self.false book.rising, tt))
 
-pub invariant-of-self-2 : goal.invariant-of-self-2
-invariant-of-self-2 g c =
+pub invariant_of-self-2 : goal.invariant_of-self-2
+invariant_of-self-2 g c =
     let book = c.args.self.now in
     let rows = book.rows.now in
-    let above : above_last (take book.used rows) c.args.row.number ≡ None = (λ i. above_last (sym c.rows.ensures i) c.args.row.number) ∙ passed _ _ _ c.in-ok-expect-above.ensures in
-    (omega (arith, length-set rows book.used c.args.row), (held_more rows book.used c.args.row c.if-self.false book.rising above, tt))
+    let above : above_last (take book.used rows) c.args.row.number ≡ None = (λ i. above_last (sym c.rows.ensures i) c.args.row.number) ∙ passed _ _ _ c.in_ok-expect_above.ensures in
+    record { within = omega (arith, length-set rows book.used c.args.row); rising = held_more rows book.used c.args.row c.if-self.false book.rising above }
 
 pub returns : goal.returns
 returns g c =
     let rows = c.args.self.now.rows.now in
     let used = c.args.self.now.used in
     let n = c.args.row.number in
-    let above : above_last (take used rows) n ≡ None = (λ i. above_last (sym c.rows.ensures i) n) ∙ passed _ _ _ c.in-ok-expect-above.ensures in
+    let above : above_last (take used rows) n ≡ None = (λ i. above_last (sym c.rows.ensures i) n) ∙ passed _ _ _ c.in_ok-expect_above.ensures in
     let less : length (take used rows) < length rows = omega (arith, length-take-le used rows c.args.self.now.within, c.if-self.false) in
     record {
       answer = sym (ap (λ o. answered o tt) (comes_in n (take used rows) (length rows) above less));

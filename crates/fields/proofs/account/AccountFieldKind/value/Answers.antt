@@ -14,16 +14,16 @@ module _ (bs : List ℕ) (n : ℕ) (start : n ≡ indent bs) where
   flaw : account_flaw (indent bs) (drop (indent bs) bs) ≡ account_flaw n (take (length bs - n) (drop n bs))
   flaw = sym (λ i. account_flaw (start i) (part i))
 
-pub returns-in-err-flaw-from : goal.returns-in-err-flaw-from
-returns-in-err-flaw-from c =
-    let p = err_from_is_err_and c.from-residual.result c.from-residual.ensures.1 in
+pub returns-in_err-flaw_from : goal.returns-in_err-flaw_from
+returns-in_err-flaw_from c =
+    let p = err_from_is_err_and c.from_residual.result c.from_residual.ensures.1 in
     let bs = c.args.field.now in
-    let same = flaw bs _ c.indent-of-start.ensures.blanks in
-    rw (p.1, p.2) (sym (ap (λ o. answered o (drop (indent bs) bs)) (ap (placed_at c.args.at) same ∙ stopped _ _ _ c.in-err-flaw-from.ensures)))
+    let same = flaw bs _ c.indent_of-start.ensures.blanks in
+    rw (p.1, p.2) (sym (ap (λ o. answered o (drop (indent bs) bs)) (ap (placed_at c.args.at) same ∙ stopped _ _ _ c.in_err-flaw_from.ensures)))
 
 pub returns : goal.returns
 returns c =
     let bs = c.args.field.now in
-    let start = c.indent-of-start.ensures.blanks in
+    let start = c.indent_of-start.ensures.blanks in
     let same = flaw bs _ start in
-    ap Ok (part bs _ start) ∙ sym (ap (λ o. answered o (drop (indent bs) bs)) (ap (placed_at c.args.at) same ∙ passed _ _ _ c.in-ok-flaw-from.ensures))
+    ap Ok (part bs _ start) ∙ sym (ap (λ o. answered o (drop (indent bs) bs)) (ap (placed_at c.args.at) same ∙ passed _ _ _ c.in_ok-flaw_from.ensures))

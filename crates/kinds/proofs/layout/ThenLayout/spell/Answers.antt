@@ -14,7 +14,7 @@ returns g c =
     let l = g.L.Layout.row c.args.self.now.1 in
     let vs = g.L.Layout.shown c.args.self.now.1 c.args.fields.1 in
     let at = c.args.at in
-    let none = passed (placed_at at (k.wrong v)) tt tt c.in-ok-judge.ensures in
+    let none = passed (placed_at at (k.wrong v)) tt tt c.in_ok-judge.ensures in
     let wide : length c.spell.new.out ≡ c.columns-width.result = ap length c.spell.ensures ∙ (g.K.FieldKind.laws c.args.self.now.0).spelled_width v (unplaced at (k.wrong v) none) ∙ sym c.columns-width.ensures in
     let next = c.right.ensures ∙ ap (right at) c.columns-width.ensures in
     record {
