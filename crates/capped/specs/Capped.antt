@@ -1,5 +1,5 @@
 -- The capped house's rules: reason 1 at column 21, a payment above the limit.
-use Rattle.std.specs.Prelude.{◌≡◌, ℕ, Bool, true, false, cond, Some, None, Option, nat_le}
+use Rattle.std.specs.Prelude.{◌≡◌, ℕ, Bool, true, false, cond, Some, None, nat_le}
 use Rattle.std.proofs.Common.{subst, arith}
 use Rattle.houses.specs.declared.objection.Objection.{Objection}
 use Rattle.houses.specs.Rules.{Rules, Sound, Sensible}

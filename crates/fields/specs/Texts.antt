@@ -1,10 +1,10 @@
 -- Fields of characters: fixed bytes, texts, accounts and marks.
-use Rattle.std.specs.Prelude.{ℕ, zero, suc, ◌+◌, ◌-◌, Bool, true, false, cond, ◌&&◌, ◌||◌, List, [], ◌∷◌, ◌++◌, length, take, drop, replicate, Some, None, codes, Option, ◌==◌, nat_le, nat_lt, slice_index}
+use Rattle.std.specs.Prelude.{ℕ, zero, suc, ◌+◌, ◌-◌, Bool, false, cond, ◌&&◌, ◌||◌, List, [], ◌∷◌, ◌++◌, length, take, drop, replicate, Some, None, codes, Option, ◌==◌, nat_le, nat_lt, slice_index}
 use Rattle.std.specs.List.{prefix_len}
 use Rattle.faults.specs.declared.Cause.TheVariants.{TooWide, WrongByte, Empty, StrayBlank}
 use Rattle.faults.specs.Faults.{Misfit}
 use Rattle.kinds.specs.Kinds.{Kind, refused_from}
-use Rattle.fields.specs.Numbers.{whole, unless, digit}
+use Rattle.fields.specs.Numbers.{whole, digit}
 
 -- exactly the given bytes
 abbrev pub fixed_kind : List ℕ → Kind

@@ -1,9 +1,9 @@
 -- What an answer says of the fault that it came from.
-use Rattle.std.proofs.Common.{◌≡◌, ℕ, Some, None, Ok, Err, Option, Result, sym, refl, ap, ◌∙◌, subst, arith}
+use Rattle.std.proofs.Common.{◌≡◌, ℕ, Some, None, Ok, Err, Option, sym, refl, ap, ◌∙◌, subst, arith}
 use Rattle.faults.specs.declared.Fault.{Fault}
 use Rattle.faults.specs.declared.Place.{Place}
 use Rattle.faults.specs.Faults.{Misfit}
-use Rattle.kinds.specs.Kinds.{answered, placed_at, map_ok}
+use Rattle.kinds.specs.Kinds.{answered, placed_at}
 use Rattle.kinds.specs.Layouts.{or_later}
 
 module _ {V : Type 0} where

@@ -1,6 +1,6 @@
 -- Bytes that are all admitted, and the scan that finds none refused.
 use Rattle.std.specs.Prelude.{◌≡◌, ℕ, zero, suc, ◌+◌, ◌<◌, ◌≤◌, Bool, true, false, cond, List, [], ◌∷◌, ◌++◌, length, take, drop, replicate, Some, None, Option, slice_index, refl}
-use Rattle.std.proofs.Common.{sym, ap, subst, ◌∙◌, add-zero, arith, take-append-drop}
+use Rattle.std.proofs.Common.{sym, subst, add-zero, arith, take-append-drop}
 use Rattle.std.specs.List.{AllByRecursion}
 use Rattle.std.proofs.lemmas.List.{length-take-le}
 use Rattle.faults.specs.declared.Cause.TheVariants.{WrongByte}

@@ -1,5 +1,5 @@
 -- What a kind of field is, and what every kind owes.
-use Rattle.std.specs.Prelude.{◌≡◌, ℕ, ◌+◌, ◌<◌, Bool, true, cond, List, [], ◌∷◌, length, Some, None, Ok, Err, Option, Result}
+use Rattle.std.specs.Prelude.{◌≡◌, ℕ, ◌+◌, Bool, true, cond, List, [], ◌∷◌, length, Some, None, Ok, Err, Option, Result}
 use Rattle.faults.specs.declared.Cause.TheVariants.{WrongByte}
 use Rattle.faults.specs.declared.Fault.{Fault}
 use Rattle.faults.specs.declared.Place.{Place}

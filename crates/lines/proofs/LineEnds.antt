@@ -1,5 +1,5 @@
 -- When a line has no fault.
-use Rattle.std.proofs.Common.{◌≡◌, ℕ, ◌≤◌, eqb, ltb, List, length, get_or, None, refl, ◌∙◌}
+use Rattle.std.proofs.Common.{◌≡◌, ℕ, ◌≤◌, List, length, get_or, None, ◌∙◌}
 use Rattle.std.proofs.lemmas.Bool.{le-ltb, eq-eqb, cond-true, cond-false}
 use Rattle.lines.specs.Lines.{line_fault}
 

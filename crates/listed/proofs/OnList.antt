@@ -5,7 +5,7 @@ use Rattle.std.proofs.lemmas.List.{map_push, at_drop_more, at_drop_all}
 use Rattle.std.proofs.lemmas.Bool.{eq-eqb, or_left, or_right}
 use Rattle.book.specs.declared.book.Row.{Row}
 use Rattle.book.specs.Books.{has_number, FoundAt}
-use Rattle.listed.specs.Listed.{BankOf, bank_of, named, numbered}
+use Rattle.listed.specs.Listed.{bank_of, named, numbered}
 
 abbrev Line : Type 0
 Line = Row (Bor (List ℕ))

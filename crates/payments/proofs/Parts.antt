@@ -1,5 +1,5 @@
 -- A detail is read, judged and spelled in two parts: columns 1 to 62, and 63 to 120.
-use Rattle.std.proofs.Common.{◌≡◌, ℕ, List, ◌++◌, take, drop, Ok, Err, codes, Option, sym, refl, ap, ◌∙◌}
+use Rattle.std.proofs.Common.{◌≡◌, ℕ, List, ◌++◌, take, drop, Ok, Err, codes, Option, sym, ap, ◌∙◌}
 use Rattle.faults.specs.declared.Fault.{Fault}
 use Rattle.faults.specs.declared.Place.{Place}
 use Rattle.kinds.specs.Kinds.{answered}

@@ -1,10 +1,10 @@
 -- What `read` answers, once its file has been summed.
-use Rattle.std.proofs.Common.{◌≡◌, ℕ, List, Ok, Err, Result, sym, refl, ap, ◌∙◌, arith}
+use Rattle.std.proofs.Common.{◌≡◌, ℕ, List, Ok, Err, Result, sym, refl, ap, ◌∙◌}
 use Rattle.faults.specs.declared.Fault.{Fault}
 use Rattle.kinds.specs.Kinds.{map_ok}
 use Rattle.payments.specs.Payments.{PaymentOf}
 use Rattle.houses.specs.Rules.{Rules}
-use Rattle.reading.specs.Exact.{FileOf, Exact}
+use Rattle.reading.specs.Exact.{Exact}
 use Rattle.reading.specs.Reading.{Answers, SummaryOf, summed, read_of}
 use Rattle.reading.proofs.Exact.{exactly}
 use Rattle.reading.proofs.Passed.{same_ok, no_ok}

@@ -1,5 +1,5 @@
 -- The trailer, step by step, and what it comes to where the tally is that of some payments.
-use Rattle.std.proofs.Common.{◌≡◌, ℕ, ◌+◌, ◌≤◌, Bool, true, false, cond, eqb, List, length, take, drop, Some, None, Ok, Err, Option, Result, sym, refl, ap, ◌∙◌, arith}
+use Rattle.std.proofs.Common.{◌≡◌, ℕ, ◌+◌, Bool, true, false, cond, eqb, List, take, drop, Some, None, Ok, Err, Option, Result, sym, refl, ap, ◌∙◌, arith}
 use Rattle.std.specs.List.{AllByRecursion}
 use Rattle.std.proofs.lemmas.Bool.{eqb-true}
 use Rattle.faults.specs.declared.Cause.TheVariants.{NoDetails}
@@ -12,7 +12,7 @@ use Rattle.faults.specs.Faults.{fault_at}
 use Rattle.payments.specs.Payments.{PaymentOf}
 use Rattle.trailers.specs.Trailers.{trailer_fault, trailer_value}
 use Rattle.houses.specs.Rules.{Rules}
-use Rattle.tally.specs.Tallies.{TallyOf, tallied, totals, apart, credits, debits}
+use Rattle.tally.specs.Tallies.{TallyOf, tallied, totals, apart}
 use Rattle.tally.proofs.Tallied.{tallied_credit, tallied_debit, tallied_count}
 use Rattle.reading.specs.ByTally.{tally_closing, tally_totals, count_fault}
 use Rattle.reading.specs.Reading.{past, totals_fault, tally_refused, after_fault, SummaryOf, closing, none_fault, summed}

@@ -1,9 +1,9 @@
 -- The first line, and a detail, step by step.
-use Rattle.std.proofs.Common.{◌≡◌, ℕ, List, get_or, take, drop, Some, None, Ok, Err, Option, Result, sym, refl, ap, ◌∙◌, arith}
+use Rattle.std.proofs.Common.{◌≡◌, ℕ, List, get_or, take, drop, None, Ok, Err, Option, Result, sym, ap, ◌∙◌, arith}
 use Rattle.std.proofs.lemmas.List.{get_or-take}
 use Rattle.faults.specs.declared.Fault.{Fault}
 use Rattle.kinds.specs.Kinds.{answered}
-use Rattle.kinds.proofs.Answers.{passed, stopped, gave}
+use Rattle.kinds.proofs.Answers.{passed, gave}
 use Rattle.headers.specs.Headers.{HeaderOf, header_fault, header_value}
 use Rattle.lines.specs.Lines.{line_fault, head_fault, cut}
 use Rattle.payments.specs.Payments.{PaymentOf, payment_fault, payment_value}

@@ -1,5 +1,5 @@
 -- What has been read of a file before a line, and what each step comes to.
-use Rattle.std.proofs.Common.{◌≡◌, ℕ, zero, suc, ◌+◌, ◌-◌, ◌^◌, ◌<◌, ◌≤◌, true, ltb, leb, List, [], ◌∷◌, ◌++◌, length, get_or, take, drop, Some, None, Ok, Err, Option, Result, sym, refl, ap, ◌∙◌, subst, arith}
+use Rattle.std.proofs.Common.{◌≡◌, ℕ, zero, suc, ◌+◌, ◌-◌, ◌^◌, ◌≤◌, true, ltb, leb, List, [], ◌∷◌, ◌++◌, length, get_or, take, drop, Some, None, Ok, Err, Result, sym, refl, ap, ◌∙◌, subst, arith}
 use Rattle.std.specs.List.{AllByRecursion}
 use Rattle.std.proofs.ByRecursion.{All-push, All-weaker}
 use Rattle.std.proofs.lemmas.List.{length_push}
@@ -11,22 +11,21 @@ use Rattle.kinds.specs.Admitted.{unless_false}
 use Rattle.fields.specs.Laws.Numbers.{unless_none}
 use Rattle.kinds.specs.Layouts.{Admitted}
 use Rattle.fields.specs.Numbers.{in_table, whole, unless}
-use Rattle.kinds.proofs.Answers.{passed as none_of, stopped}
+use Rattle.kinds.proofs.Answers.{stopped}
 use Rattle.kinds.proofs.RoundTrip.{round_trip, none_first}
 use Rattle.lines.specs.declared.Tag.{Tag}
 use Rattle.lines.specs.declared.Tag.TheVariants.{Detail, Trailer as IsTrailer}
 use Rattle.kinds.specs.Layouts.{start}
-use Rattle.headers.specs.Headers.{header_fault, header_value}
 use Rattle.faults.specs.Faults.{fault_at}
-use Rattle.lines.specs.Lines.{line_fault, head_fault, tagged, cut}
+use Rattle.lines.specs.Lines.{line_fault, tagged, cut}
 use Rattle.payments.specs.Payments.{PaymentOf, payment_row, payment_values, payment_fault, payment_value, payment_wrong}
 use Rattle.payments.proofs.Shapes.{payment_lawful}
 use Rattle.houses.specs.Rules.{Rules}
 use Rattle.tally.specs.Tallies.{TallyOf, tallied, with_payment}
 use Rattle.tally.proofs.Tallied.{tallied_more}
 use Rattle.reading.specs.ByTally.{tally_closing}
-use Rattle.reading.specs.Reading.{past, and_then, by_tag, objected, opening, agreed, details, closing, read_of, summed, SummaryOf}
-use Rattle.reading.proofs.Closings.{closing_tallied, map_past}
+use Rattle.reading.specs.Reading.{past, and_then, by_tag, objected, opening, agreed, details, closing, read_of, summed}
+use Rattle.reading.proofs.Closings.{closing_tallied}
 use Rattle.reading.proofs.Openings.{no_line_fault, columns_are, after_is, first_byte}
 use Rattle.reading.proofs.Passed.{passed, same_ok, went_well, went_wrong}
 use Rattle.reading.proofs.Spelled.{payment_spelling}

@@ -1,9 +1,9 @@
 -- What one step of reading gives, where it is refused and where it is not.
-use Rattle.std.proofs.Common.{◌≡◌, ℕ, zero, suc, ◌+◌, ◌-◌, ◌*◌, ◌/◌, ◌<◌, ◌≤◌, List, [], length, drop, Some, None, Ok, Err, Option, Result, sym, refl, ap, ◌∙◌, arith}
+use Rattle.std.proofs.Common.{◌≡◌, ℕ, zero, suc, ◌-◌, ◌*◌, ◌/◌, ◌<◌, ◌≤◌, List, [], length, drop, Ok, Err, Option, Result, sym, ap, ◌∙◌, arith}
 use Rattle.std.proofs.lemmas.List.{drop_all}
 use Rattle.faults.specs.declared.Fault.{Fault}
-use Rattle.kinds.specs.Kinds.{answered, map_ok}
-use Rattle.kinds.proofs.Answers.{passed, stopped, gave}
+use Rattle.kinds.specs.Kinds.{answered}
+use Rattle.kinds.proofs.Answers.{passed, stopped}
 use Rattle.lines.specs.declared.Tag.{Tag}
 use Rattle.lines.specs.declared.Tag.TheVariants.{Detail, Trailer as IsTrailer}
 use Rattle.reading.specs.Reading.{past, by_tag, rest_at}

@@ -1,7 +1,6 @@
 -- Worked cases, as one statement about the definitions.
 use Rattle.std.specs.Prelude.{◌≡◌, ℕ, List, [], ◌++◌, replicate, Some, None, Ok, Err, codes, Option, Result}
 use Prim.Native.String.{String}
-use Rattle.fields.specs.declared.date.Date.{Date}
 use Rattle.faults.specs.declared.Fault.{Fault}
 use Rattle.faults.specs.Faults.{number}
 use Rattle.headers.specs.Headers.{header_fault, header_value}

@@ -1,15 +1,14 @@
 -- The laws of the kinds that join several numbers: the BSB and the date.
-use Rattle.std.specs.Prelude.{◌≡◌, ℕ, zero, suc, ◌+◌, ◌-◌, ◌*◌, ◌/◌, ◌%◌, ◌^◌, ◌<◌, ◌≤◌, Bool, true, false, cond, ◌&&◌, leb, List, [], ◌∷◌, ◌++◌, length, take, drop, Some, None, Option, ◌==◌, ◌≢◌, nat_le, slice_index_or, refl}
-use Rattle.std.proofs.Common.{sym, ap, subst, ◌∙◌, arith, length-append, length-take, length-drop, take-append-drop}
+use Rattle.std.specs.Prelude.{◌≡◌, ℕ, ◌+◌, ◌-◌, ◌*◌, ◌/◌, ◌%◌, ◌<◌, ◌≤◌, Bool, true, cond, leb, List, ◌∷◌, ◌++◌, length, take, drop, None, ◌==◌, ◌≢◌, nat_le, slice_index_or, refl}
+use Rattle.std.proofs.Common.{sym, ap, subst, ◌∙◌, arith, length-take, length-drop, take-append-drop}
 use Rattle.std.proofs.lemmas.List.{drop_more, drop-drop, take_all}
 use Rattle.std.proofs.lemmas.Bool.{and_from, and_parts, le-leb, leb-true, lt-ltb, ltb-true, eqb-true, ne_eqb, cond_both, cond-true}
 use Rattle.fields.specs.declared.date.Date.{Date}
 use Rattle.faults.specs.declared.Cause.TheVariants.{TooWide, NoSuchValue}
-use Rattle.faults.specs.Faults.{Misfit}
-use Rattle.kinds.specs.Kinds.{Kind, Lawful, AllFrom, refused_from, fault}
+use Rattle.kinds.specs.Kinds.{Lawful, AllFrom, fault}
 use Rattle.fields.specs.Numbers.{unless, digit, number_of, digits, bsb_kind, date_kind, date_of, a_day, days_in, leap, AllDigits}
-use Rattle.kinds.specs.Admitted.{all_admitted, none_refused, all_append, all_weaker, all_at, all_part, unless_false}
-use Rattle.fields.specs.Laws.Numbers.{length_digits, digits_read, digit_proper, digits_back, number_less, unless_none}
+use Rattle.kinds.specs.Admitted.{all_admitted, none_refused, all_weaker, all_at, all_part, unless_false}
+use Rattle.fields.specs.Laws.Numbers.{digits_read, digit_proper, digits_back, number_less, unless_none}
 
 -- the digits of a part that admits nothing else
 part_digits : (p : ℕ → ℕ → Bool) (n k : ℕ) (bs : List ℕ) → n + k ≤ length bs → ((j b : ℕ) → j < k → p (n + j) b ≡ true → digit b ≡ true) → AllFrom p 0 bs → AllDigits (take k (drop n bs))

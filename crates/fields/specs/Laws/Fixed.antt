@@ -1,6 +1,6 @@
 -- The law of fixed bytes.
 use Rattle.std.proofs.Common.{sym, zero-add, arith}
-use Rattle.std.specs.Prelude.{ℕ, ◌+◌, ◌<◌, List, length, None, nat_lt, refl}
+use Rattle.std.specs.Prelude.{ℕ, List, length, None, nat_lt, refl}
 use Rattle.std.proofs.lemmas.List.{ext_get_or}
 use Rattle.std.proofs.lemmas.Bool.{and_from, and_parts, eq-eqb, eqb-true, lt-ltb}
 use Rattle.kinds.specs.Kinds.{Lawful}

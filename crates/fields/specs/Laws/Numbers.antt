@@ -1,14 +1,13 @@
 -- Digits and the numbers that they write, and the laws of the kinds made of them.
-use Rattle.std.specs.Prelude.{◌≡◌, ℕ, zero, suc, ◌+◌, ◌-◌, ◌*◌, ◌/◌, ◌%◌, ◌^◌, ◌<◌, ◌≤◌, Bool, true, false, cond, ◌&&◌, List, [], ◌∷◌, ◌++◌, length, take, drop, Some, None, Option, nat_le, slice_index, slice_index_or, slice_set, refl}
+use Rattle.std.specs.Prelude.{◌≡◌, ℕ, zero, suc, ◌+◌, ◌-◌, ◌*◌, ◌/◌, ◌%◌, ◌^◌, ◌<◌, ◌≤◌, Bool, true, false, List, [], ◌∷◌, ◌++◌, length, take, drop, None, nat_le, slice_index, slice_index_or, slice_set, refl}
 use Rattle.std.proofs.Common.{sym, ap, subst, ◌∙◌, pow-suc, add-one, arith, length-append, length-take, take-append-drop}
 use Rattle.std.proofs.Math.Nat.{pow-le-pow_right}
 use Rattle.std.proofs.lemmas.List.{take_more, take_all, length-take-le, drop-set, append_assoc}
 use Rattle.std.proofs.lemmas.Bool.{and_from, and_parts, le-leb, leb-true, lt-ltb, ltb-true}
 use Rattle.faults.specs.declared.Cause.{Cause}
 use Rattle.faults.specs.declared.Cause.TheVariants.{Empty}
-use Rattle.faults.specs.Faults.{Misfit}
-use Rattle.kinds.specs.Kinds.{Kind, Lawful, AllFrom, refused_from}
-use Rattle.fields.specs.Numbers.{whole, unless, digit, number_from, number_of, digits, numeral, number_kind, AllDigits}
+use Rattle.kinds.specs.Kinds.{Lawful, AllFrom}
+use Rattle.fields.specs.Numbers.{unless, digit, number_from, number_of, digits, numeral, number_kind, AllDigits}
 use Rattle.kinds.specs.Admitted.{all_admitted, none_refused, all_append, all_left, all_right, unless_false}
 
 from_append : (n : ℕ) (xs ys : List ℕ) → number_from n (xs ++ ys) ≡ number_from (number_from n xs) ys

@@ -1,4 +1,4 @@
-use Rattle.std.proofs.Common.{◌≡◌, sym, ◌∙◌}
+use Rattle.std.proofs.Common.{sym, ◌∙◌}
 use Rattle.book.specs.Books.{rows_of}
 use Rattle.listed.proofs.OnList.{this_one, next_one, no_one}
 use Rattle.listed.proofs.has_name.Goals as goal

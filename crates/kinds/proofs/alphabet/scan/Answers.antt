@@ -1,4 +1,4 @@
-use Rattle.std.proofs.Common.{Ok, Err, sym, refl, ap, ◌∙◌, rules}
+use Rattle.std.proofs.Common.{Err, sym, ap, ◌∙◌, rules}
 use Rattle.kinds.specs.Kinds.{answered, placed_at}
 use Rattle.kinds.proofs.Scan.{scan_on, scan_stops, scanned}
 use Rattle.kinds.proofs.alphabet.scan.Goals as goal

@@ -1,4 +1,4 @@
-use Rattle.std.proofs.Common.{◌≡◌, map, sym, ap, ◌∙◌}
+use Rattle.std.proofs.Common.{map, sym, ap, ◌∙◌}
 use Rattle.kinds.specs.Kinds.{answered}
 use Rattle.kinds.specs.Layouts.{or_later}
 use Rattle.kinds.proofs.Answers.{passed}

@@ -1,7 +1,6 @@
-use Rattle.std.proofs.Common.{◌≡◌, Ok, Err, sym, ap, ◌∙◌, arith}
+use Rattle.std.proofs.Common.{Ok, sym, ap, ◌∙◌}
 use Rattle.std.proofs.lemmas.Result.{err_from_is_err_and}
 use Rattle.payments.specs.Payments.{payment_of}
-use Rattle.tally.specs.Tallies.{tally_of}
 use Rattle.reading.specs.Reading.{summary_of}
 use Rattle.reading.proofs.Answered.{left_by}
 use Rattle.reading.proofs.Sofar.{start_refused, started, line_refused, tag_refused, at_trailer, too_many, detail_refused, one_more}

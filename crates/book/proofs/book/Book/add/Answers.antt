@@ -1,7 +1,6 @@
-use Rattle.std.proofs.Common.{◌≡◌, ℕ, ◌+◌, ◌<◌, ◌≤◌, List, ◌∷◌, ◌++◌, length, take, set, None, Ok, Result, sym, ap, ◌∙◌, subst, arith, length-set}
+use Rattle.std.proofs.Common.{◌≡◌, ℕ, ◌+◌, ◌<◌, List, length, take, set, None, sym, ap, ◌∙◌, subst, arith, length-set}
 use mathlib.Core.Logic.{∥∥₁_map}
 use Rattle.std.proofs.lemmas.List.{take-set, take_more_set, length-take-le}
-use Rattle.faults.specs.declared.Fault.{Fault}
 use Rattle.kinds.specs.Kinds.{answered}
 use Rattle.kinds.proofs.Answers.{passed}
 use Rattle.book.specs.declared.book.Row.{Row}
