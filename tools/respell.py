@@ -9,9 +9,9 @@ and a capital inside a name that begins small becomes `_` and the small letter. 
 in .antt files and in the clauses and ghost items of .rt files. It also writes the library's `AllByRecursion` by its own
 name, since no import may stand under the name `All` for something else than the library's `All`.
 
-Left alone: names of src/ and what Rattle makes of them (goals, steps, generated modules), names of a library, strings
-and comments. It prints the names that would fall together where both are in use, and stops if a new name is declared
-already, or two names become one.
+Left alone: names of src/ and what Rattle makes of them (goals, steps, generated modules), names of a library, and names
+that a pattern or a λ binds. It stops, with nothing written, if a new name is declared already or two names become one. The
+lines that it prints of names that both stand in a file are warnings: there a name of src/ or of a record has that spelling.
 """
 import os
 import re
@@ -62,11 +62,11 @@ def in_antt(text, turned, answers):
         if re.match(r"^\s*(abbrev )?(pub )?\S+ : goal\.", line):
             return line
 
-        def one(m):
-            made = answers and re.search(r"\b(c|w|l|goal)\.$", line[: m.start()])
-            return m[0] if made else turned.get(m[0], m[0])
+        def turn(m):
+            is_step = answers and re.search(r"\b(c|w|l|goal)\.$", line[: m.start()])
+            return m[0] if is_step else turned.get(m[0], m[0])
 
-        return TOKEN.sub(one, line)
+        return TOKEN.sub(turn, line)
 
     return "".join(map(line_of, text.splitlines(True)))
 
