@@ -10,8 +10,9 @@ in .antt files and in the clauses and ghost items of .rt files. It also writes t
 name, since no import may stand under the name `All` for something else than the library's `All`.
 
 Left alone: names of src/ and what Rattle makes of them (goals, steps, generated modules), names of a library, and names
-that a pattern or a λ binds. It stops, with nothing written, if a new name is declared already or two names become one. The
-lines that it prints of names that both stand in a file are warnings: there a name of src/ or of a record has that spelling.
+that a pattern or a λ binds. It stops, with nothing written, if a new name is declared already, if two names become one, or if
+a name that `let` binds would become one that stands in its file. The lines that it prints of names that both stand in a file
+are warnings: there a name of src/ or of a record has that spelling.
 """
 import os
 import re
@@ -101,21 +102,19 @@ def main():
         become.setdefault(new, []).append(old)
     bad = [f"{', '.join(olds)} become {new}" for new, olds in become.items() if len(olds) > 1]
     bad += [f"{new} is declared already" for new in become if new in names]
-    if bad:
-        sys.exit("\n".join(bad))
 
     used = {p: set(TOKEN.findall("\n".join(map(without_comment, t.splitlines())))) for p, t in texts.items()}
+    bound = {p: {n: snake(n) for n in LOCAL.findall(t) if n not in turned} for p, t in texts.items()}
+    bad += [f"{p}: {old} would become {new}, which stands there" for p in texts for old, new in bound[p].items() if new in used[p]]
+    if bad:
+        sys.exit("\n".join(bad))
     for old, new in sorted(turned.items()):
         both = [os.path.relpath(p, top) for p in texts if {old, new} <= used[p]]
         if both:
             print(f"{old} and {new}, another's name, both stand in {', '.join(both)}")
 
     for path, text in texts.items():
-        local = {n: snake(n) for n in LOCAL.findall(text) if n not in turned}
-        for old, new in local.items():
-            if new in used[path]:
-                sys.exit(f"{path}: {old} would become {new}, which stands there")
-        new = by_recursion(in_antt(text, turned | local, os.path.basename(path) in ANSWERS))
+        new = by_recursion(in_antt(text, turned | bound[path], os.path.basename(path) in ANSWERS))
         if new != text:
             open(path, "w", encoding="utf-8").write(new)
     for path in files(top, ".rt"):
