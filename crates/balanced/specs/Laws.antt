@@ -1,20 +1,19 @@
 -- Proofs that the balanced house's rules are sound. They stand here, since the house cites them; nothing here need be believed.
-use Rattle.std.specs.Prelude.{◌≡◌, ℕ, ◌+◌, ◌≤◌, ◌||◌, List, [], ◌∷◌, length, take, Some, None, codes, Option, ◌==◌, nat_lt}
-use Rattle.std.proofs.Common.{ap, arith, length-take}
+use Rattle.std.specs.Prelude.{◌≡◌, ℕ, ◌+◌, ◌≤◌, ◌||◌, List, length, take, Some, None, codes, Option, ◌==◌, nat_lt}
+use Rattle.std.proofs.Common.{ap, refl, arith, length-take}
 use Rattle.std.specs.Str.{bytes_eq}
 use Rattle.std.proofs.lemmas.List.{take_all}
 use Rattle.std.proofs.lemmas.Bool.{ltb-false}
+use Rattle.std.proofs.lemmas.List.Quantifiers.{position-Some}
 use Rattle.kinds.specs.Admitted.{unless_true}
 use Rattle.fields.specs.Texts.{text_kind}
-use Rattle.houses.specs.Laws.{Fair, Reason, fair_none, fair_some, fair_cond, fair_or}
+use Rattle.houses.specs.Laws.{Fair, Reason, fair_none, fair_cond, fair_or, fair_map, fair_no, fair_reason}
 use Rattle.houses.specs.Rules.{Sensible, Sound}
 use Rattle.tally.specs.Tallies.{LastOf, TallyOf, rows_credit, rows_debit, side_count}
 use Rattle.balanced.specs.Balanced.{balanced_rules, balanced_last, in_text, semicolon, settles}
 
 fair_semicolon : (column : ℕ) (bs : List ℕ) → 1 ≤ column → column + length bs ≤ 121 → Fair Sensible (semicolon column bs)
-fair_semicolon column [] low high = fair_none Sensible
-fair_semicolon column (b ∷ bs) low high =
-    fair_cond Sensible (b == 59) _ _ (fair_some Sensible _ (omega arith, omega arith, low, omega arith)) (fair_semicolon (column + 1) bs (omega arith) (omega arith))
+fair_semicolon column bs low high = fair_map Sensible _ _ (λ i at. let first = position-Some (λ b. b == 59) bs i 0 at in (omega arith, omega arith, omega arith, omega (arith, first.0)))
 
 fair_text : (column width : ℕ) (text : List ℕ) → 1 ≤ column → column + width ≤ 121 → Fair Sensible (in_text column width text)
 fair_text column width text low high = fair_semicolon column (take width text) low (simp length-take (omega arith))
@@ -26,18 +25,18 @@ whole_text column width text admitted =
 
 module _ (bsb : ℕ) (account : List ℕ) where
   fair_last : (t : TallyOf) (last : Option LastOf) → Fair Reason (balanced_last bsb account t last)
-  fair_last t None = fair_some Reason 5 (omega arith, omega arith)
+  fair_last t None = fair_reason 5 refl
   fair_last t (Some last) =
-      fair_cond Reason (settles bsb account last) _ _ (fair_cond Reason (side_count t.rows last.code == 1) _ _ (fair_none Reason) (fair_some Reason 6 (omega arith, omega arith))) (fair_some Reason 5 (omega arith, omega arith))
+      fair_cond Reason (settles bsb account last) _ _ (fair_cond Reason (side_count t.rows last.code == 1) _ _ (fair_none Reason) (fair_reason 6 refl)) (fair_reason 5 refl)
 
   pub balanced_sound : Sound (balanced_rules bsb account)
   balanced_sound = record {
     header = λ h.
         let texts = fair_or Sensible _ _ (fair_text 31 26 h.user_name (omega arith) (omega arith)) (fair_text 63 12 h.description (omega arith) (omega arith)) in
-        fair_cond Sensible (bytes_eq h.bank (codes "BQL")) _ _ texts (fair_some Sensible _ (omega arith, omega arith, omega arith, omega arith));
+        fair_cond Sensible (bytes_eq h.bank (codes "BQL")) _ _ texts (fair_no 1 21 refl);
     payment = λ p.
         let front = fair_or Sensible _ _ (fair_text 31 32 p.title (omega arith) (omega arith)) (fair_text 63 18 p.reference (omega arith) (omega arith)) in
         let texts = fair_or Sensible _ _ front (fair_text 97 16 p.remitter (omega arith) (omega arith)) in
-        fair_cond Sensible (p.code == 51 || p.code == 52) _ _ (fair_some Sensible _ (omega arith, omega arith, omega arith, omega arith)) texts;
-    tally = λ t. fair_cond Reason (rows_credit t.rows == rows_debit t.rows) _ _ (fair_last t t.last) (fair_some Reason 4 (omega arith, omega arith));
+        fair_cond Sensible (p.code == 51 || p.code == 52) _ _ (fair_no 2 19 refl) texts;
+    tally = λ t. fair_cond Reason (rows_credit t.rows == rows_debit t.rows) _ _ (fair_last t t.last) (fair_reason 4 refl);
   }

@@ -1,2 +1,3 @@
 pub mod Books
+pub mod Held
 pub mod Search

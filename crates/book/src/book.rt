@@ -1,19 +1,31 @@
-// Numbered rows in a lent slice.
-ghost use Rattle.std.specs.Prelude.{◌≤◌, length, take};
-ghost use Rattle.book.specs.Search.{Climbs};
+//! Numbered rows in a lent slice.
 
-// A row of any kind that goes by a number.
-#[derive(Clone, Copy, Drop)]
+use std::marker::Model;
+
+/// A row of any kind that goes by a number.
+#[derive(Clone, Copy, PartialEq, Eq, Debug, Drop)]
 pub struct Row<V> {
+    // a field, and not a method that each kind of row has: so clauses name it, and no definition takes a key
     pub number: u64,
     pub value: V,
 }
 
-// A book holds numbered rows of any kind in rising order of number. The rows in use stand first.
+/// Numbered rows of any kind in rising order of number.
 #[derive(Drop)]
 pub struct Book<'a, V> {
+    // a lent slice and a length, and no `Vec`: the library takes no memory of its own. The rows in use stand first
     pub(crate) rows: &'a mut [Row<V>],
     pub(crate) used: usize,
-    ghost within: { used ≤ length rows.now },
-    ghost rising: { ∥ Climbs (λ r. r.number) (take used rows.now) ∥₁ },
+}
+
+impl<'a, V> Model for Book<'a, V> {
+    ghost use Rattle.std.specs.Prelude.{◌≤◌, length, take};
+    ghost use Rattle.book.specs.Search.{Climbs};
+    ghost use Rattle.book.specs.Held.{Held};
+
+    ghost Value = { Held V };
+
+    ghost view = { λ b. record { rows = take b.used b.rows.now; room = length b.rows.now } };
+
+    ghost invariant = { λ b. (b.used ≤ length b.rows.now) × Climbs (λ r. r.number) (take b.used b.rows.now) };
 }

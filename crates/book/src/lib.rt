@@ -1,4 +1,4 @@
-// Numbered rows in rising order, and the one search that finds them.
+//! Numbered rows in rising order, and the one search that finds them.
 
 #![tactic(auto)]
 

@@ -1,8 +1,9 @@
-// Rows that go by a number, and the one search for them.
+//! Rows that go by a number, and the one search for them.
 ghost use Rattle.std.specs.Prelude.{◌≡◌, ℕ, ◌≤◌, length};
 ghost use Rattle.std.specs.List.Sorted.{IsNonDecreasingBy};
 ghost use Rattle.book.specs.Search.{first_not_below};
 
+/// What goes by a number.
 pub trait Numbered {
     ghost key: { Self → ℕ };
 
@@ -10,21 +11,11 @@ pub trait Numbered {
         ensures { result ≡ key self.now };
 }
 
-// The first place whose number is not below the wanted one, wherever the numbers rise; some place of the rows, or their
-// end, where they do not.
+/// The first place whose number is not below the wanted one, where the numbers never fall; some place of the rows, or their
+/// end, where they fall.
 pub fn search<R: Numbered>(rows: &[R], wanted: u64) -> usize
     ensures within { result ≤ length rows.now }
-    ensures found { IsNonDecreasingBy R.Numbered.key rows.now → result ≡ first_not_below R.Numbered.key wanted rows.now }
+    ensures found { IsNonDecreasingBy R.key rows.now → result ≡ first_not_below R.key wanted rows.now }
 {
-    let mut low = 0;
-    let mut high = rows.len();
-    while low < high {
-        let middle = low + (high - low) / 2;
-        if rows[middle].number() < wanted {
-            low = middle + 1;
-        } else {
-            high = middle;
-        }
-    }
-    low
+    rows.partition_point(|row| row.number() < wanted)
 }

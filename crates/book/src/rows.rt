@@ -1,7 +1,8 @@
-// How a book is made, filled and read.
-ghost use Rattle.std.specs.Prelude.{◌≡◌, [], ◌∷◌, ◌++◌, length, is_ok, if◌then◌else◌};
+//! How a book is made, filled and read.
+ghost use Rattle.std.specs.Prelude.{◌≡◌, ◌≤◌, [], length, is_ok, if◌then◌else◌};
 ghost use Rattle.kinds.specs.Kinds.{answered};
-ghost use Rattle.book.specs.Books.{rows_of, room_of, row_fault, above_last, nowhere, FoundAt};
+ghost use Rattle.book.specs.Books.{row_fault, above_last, with_row, FoundAt};
+ghost use Rattle.book.specs.Search.{Climbs};
 
 use crate::book::{Book, Row};
 use crate::numbered::{Numbered, search};
@@ -16,42 +17,43 @@ impl<V> Numbered for Row<V> {
 }
 
 impl<'a, V: Drop> Book<'a, V> {
-    // A book that holds no rows, and has room for as many as the slice.
+    /// A book that holds no rows, and has room for as many as the slice.
     pub fn new(rows: &'a mut [Row<V>]) -> Book<'a, V>
-        ensures empty { rows_of result ≡ [] }
-        ensures room { room_of result ≡ length rows.old }
+        ensures { result ≡ record { rows = []; room = length rows.old } }
     {
         Book { rows, used: 0 }
     }
 
-    // The rows in use.
+    /// The rows in use.
     pub fn rows(&self) -> &[Row<V>]
-        ensures { result.now ≡ rows_of self.now }
+        ensures all { result.now ≡ self.now.rows }
+        ensures rising { Climbs (λ r. r.number) result.now }
+        ensures within { length result.now ≤ self.now.room }
     {
-        &self.rows[0..self.used]
+        &self.rows[..self.used]
     }
 
-    // Where the row of a number stands, if there is one.
+    /// Where the row of a number stands, if there is one.
     pub fn find(&self, number: u64) -> Option<usize>
-        ensures { FoundAt (rows_of self.now) number result }
+        ensures { FoundAt self.now.rows number result }
     {
         let rows = self.rows();
         let place = search(rows, number);
         if place < rows.len() && rows[place].number == number {
-            return Some(place);
+            Some(place)
+        } else {
+            None
         }
-        None
     }
 
-    // A row at the end: refused where its number is not above the last one's, and then where every row is taken.
+    /// A row at the end: refused where its number is not above the last one's, and then where every row is taken.
     pub fn add(&mut self, row: Row<V>) -> Result<(), Fault>
-        ensures answer { result ≡ answered (row_fault (rows_of self.old) (room_of self.old) row.number) tt }
-        ensures after { rows_of self.new ≡ (if is_ok result then rows_of self.old ++ row ∷ [] else rows_of self.old) }
-        ensures room { room_of self.new ≡ room_of self.old }
+        ensures answer { result ≡ answered (row_fault self.old row.number) tt }
+        ensures after { self.new ≡ (if is_ok result then with_row self.old row else self.old) }
     {
         expect_above(self.rows(), row.number)?;
         if self.used >= self.rows.len() {
-            return Err(nowhere(Cause::BookFull));
+            return Err(Cause::BookFull.at(0, 0));
         }
         self.rows[self.used] = row;
         self.used += 1;
@@ -63,21 +65,11 @@ impl<'a, V: Drop> Book<'a, V> {
 fn expect_above<V>(rows: &[Row<V>], number: u64) -> Result<(), Fault>
     ensures { result ≡ answered (above_last rows.now number) tt }
 {
-    if rows.is_empty() {
+    let [.., last] = rows else {
         return Ok(());
-    }
-    if number <= rows[rows.len() - 1].number {
-        return Err(nowhere(Cause::NotRising));
+    };
+    if number <= last.number {
+        return Err(Cause::NotRising.at(0, 0));
     }
     Ok(())
-}
-
-fn nowhere(cause: Cause) -> Fault
-    ensures { result ≡ nowhere cause }
-{
-    Fault {
-        cause,
-        line: 0,
-        column: 0,
-    }
 }

@@ -1,8 +1,9 @@
-// An example of a house: no payment is above a limit.
+//! An example of a house: no payment is above a limit.
 
 #![tactic(auto)]
 
-ghost use Rattle.capped.specs.Capped.{capped_rules, capped_sound};
+ghost use Rattle.capped.specs.Capped.{capped_rules};
+ghost use Rattle.capped.specs.Laws.{capped_sound};
 
 use headers::Header;
 use houses::house::House;
@@ -10,11 +11,18 @@ use houses::objection::Objection;
 use payments::Payment;
 use tally::Tally;
 
-// The most cents that one payment may have.
-#[derive(Clone, Copy)]
+/// A house with a limit to each payment.
+#[derive(Clone, Copy, PartialEq, Eq, Debug)]
 pub struct Capped {
+    /// The most cents that one payment may have.
     pub most: u64,
 }
+
+// The house's only objection: a payment is above the limit.
+const TOO_MUCH: Objection = Objection {
+    reason: 1,
+    column: 21,
+};
 
 impl House for Capped {
     ghost rules = { λ house. capped_rules house.most };
@@ -26,13 +34,7 @@ impl House for Capped {
     }
 
     fn objects_to_payment(&self, payment: &Payment) -> Option<Objection> {
-        if payment.cents > self.most {
-            return Some(Objection {
-                reason: 1,
-                column: 21,
-            });
-        }
-        None
+        (payment.cents > self.most).then_some(TOO_MUCH)
     }
 
     fn objects_to_tally(&self, tally: &Tally) -> Option<u8> {

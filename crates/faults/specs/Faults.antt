@@ -1,10 +1,11 @@
 -- How a refusal is reported, and where it stands.
-use Rattle.std.specs.Prelude.{ℕ, ◌+◌}
+use Rattle.std.specs.Prelude.{ℕ, ◌+◌, Some, None, Option}
 use Rattle.faults.specs.declared.Cause.{Cause}
 use Rattle.faults.specs.declared.Cause.TheVariants.{Short, LineEnd, RecordType, TooManyDetails, NoSuchEntry, TooWide, WrongByte, Empty, StrayBlank, NoSuchValue, TaxUnmarked, HouseRefused, NotRising, BookFull, SideFull, EntryOut, NoDetails, WrongTotal, TallyRefused, BytesAfter, BufferShort}
 use Rattle.faults.specs.declared.Layer.{Layer}
 use Rattle.faults.specs.declared.Layer.TheVariants.{Line, Record, File, Run, Field, House}
 use Rattle.faults.specs.declared.Fault.{Fault}
+use Rattle.faults.specs.declared.Misfit.{Misfit}
 use Rattle.faults.specs.declared.Place.{Place}
 
 abbrev pub number : Cause → ℕ
@@ -53,11 +54,13 @@ layer (TallyRefused reason) = House
 layer BytesAfter = File
 layer BufferShort = Run
 
--- what is wrong within one field, and how many bytes into it
-pub record Misfit : Type 0 where
-  pub cause : Cause
-  pub offset : ℕ
+-- the reason of a house's refusal
+abbrev pub reason : Cause → Option ℕ
+reason (HouseRefused r) = Some r
+reason (TallyRefused r) = Some r
+reason _ = None
 
+-- a misfit of the field that begins at the place
 abbrev pub placed : Place → Misfit → Fault
 placed p m = record { cause = m.cause; line = p.line; column = p.column + m.offset }
 

@@ -1,59 +1,62 @@
-// What is wrong, and where: one type from the field to the file.
+//! What is wrong, and where: within a field, and then in one type from the line to the file.
 
 #![tactic(auto)]
 
 ghost use Rattle.std.specs.Prelude.{◌≡◌, ◌+◌, ◌<◌, ◌^◌};
-ghost use Rattle.faults.specs.Faults.{number, layer, placed, right};
+ghost use Rattle.faults.specs.Faults.{number, layer, reason, fault_at, placed, right};
 
-// Why a call is refused. `number` and `layer` say how each is reported.
-#[derive(Clone, Copy)]
+use std::error::Error;
+use std::fmt;
+
+/// Why a call is refused. `number` and `layer` say how each is reported.
+#[derive(Clone, Copy, PartialEq, Eq, Debug)]
 pub enum Cause {
-    // fewer than a record's bytes remain
+    /// fewer bytes remain than a record and its CR LF have
     Short,
-    // the record is not followed by CR LF
+    /// the record is not followed by CR LF
     LineEnd,
-    // the first column names no record that may stand here
+    /// the first column names no record that may stand here
     RecordType,
-    // a detail follows 999,999 others
+    /// a detail follows 999,999 others
     TooManyDetails,
-    // the number does not stand, or the slip's entry is not out
+    /// the number does not stand, or the slip's entry is not out
     NoSuchEntry,
-    // a form's value is wider than its columns, or its year is not 2000 to 2099
+    /// a form's value is wider than its columns, or its year is not 2000 to 2099
     TooWide,
-    // a byte is not admitted at its column
+    /// a byte is not admitted at its column
     WrongByte,
-    // a text is blank, an account has no digit 1 to 9, or cents are zero
+    /// a text is blank, an account has no digit 1 to 9, or cents are zero
     Empty,
-    // a blank stands where a text or an account has none
+    /// a blank stands where a text or an account has none
     StrayBlank,
-    // a date is no day of the calendar, or a code is not in the table
+    /// a date is no day of the calendar, or a code is not in the table
     NoSuchValue,
-    // tax without one of the marks W, X, Y
+    /// tax without one of the marks W, X, Y
     TaxUnmarked,
-    // the house says no to a header or a payment, for this reason
+    /// the house says no to a header or a payment, for this reason: a number, since each bank's house has its own
     HouseRefused(u8),
-    // numbers have run out, or a row's number is not above the last one's
+    /// numbers have run out, or a row's number is not above the last one's
     NotRising,
-    // every row is taken
+    /// every row is taken
     BookFull,
-    // a side would pass ten digits
+    /// a side would pass ten digits
     SideFull,
-    // an entry is out
+    /// an entry is out
     EntryOut,
-    // there is no detail
+    /// there is no detail
     NoDetails,
-    // net, credit, debit or count differs
+    /// net, credit, debit or count differs
     WrongTotal,
-    // the house says no to the tally, for this reason
+    /// the house says no to the tally, for this reason
     TallyRefused(u8),
-    // bytes follow the trailer
+    /// bytes follow the trailer
     BytesAfter,
-    // the buffer is shorter than the file
+    /// the buffer is shorter than the file
     BufferShort,
 }
 
-// What was being judged when the refusal came.
-#[derive(Clone, Copy)]
+/// What was being judged when the refusal came.
+#[derive(Clone, Copy, PartialEq, Eq, Debug)]
 pub enum Layer {
     Line,
     Record,
@@ -64,7 +67,7 @@ pub enum Layer {
 }
 
 impl Cause {
-    // The number of the refusal, 1 to 21.
+    /// The number of the refusal, 1 to 21.
     pub fn number(self) -> u8
         ensures { result ≡ number self }
     {
@@ -93,6 +96,7 @@ impl Cause {
         }
     }
 
+    /// What was being judged, which follows from the cause.
     pub fn layer(self) -> Layer
         ensures { result ≡ layer self }
     {
@@ -115,37 +119,98 @@ impl Cause {
             Cause::HouseRefused(_) | Cause::TallyRefused(_) => Layer::House,
         }
     }
+
+    /// The reason that a house gave, where it was a house that refused.
+    pub fn reason(self) -> Option<u8>
+        ensures { result ≡ reason self }
+    {
+        match self {
+            Cause::HouseRefused(reason) | Cause::TallyRefused(reason) => Some(reason),
+            _ => None,
+        }
+    }
+
+    /// The refusal at a line and a column.
+    pub fn at(self, line: usize, column: usize) -> Fault
+        ensures { result ≡ fault_at self line column }
+    {
+        Fault {
+            cause: self,
+            line,
+            column,
+        }
+    }
 }
 
-// A refusal: why, and at which line and column. Outside reading the line is 0.
-#[derive(Clone, Copy)]
+impl fmt::Display for Layer {
+    fn fmt<W: fmt::Write>(&self, f: &mut fmt::Formatter<W>) -> fmt::Result {
+        f.write_str(match self {
+            Layer::Line => "line",
+            Layer::Record => "record",
+            Layer::File => "file",
+            Layer::Run => "run",
+            Layer::Field => "field",
+            Layer::House => "house",
+        })
+    }
+}
+
+/// What is wrong within one field, and how many bytes into it.
+#[derive(Clone, Copy, PartialEq, Eq, Debug)]
+pub struct Misfit {
+    pub cause: Cause,
+    pub offset: usize,
+}
+
+/// A refusal: why, and at which line and column. Outside reading the line is 0.
+#[derive(Clone, Copy, PartialEq, Eq, Debug)]
 pub struct Fault {
     pub cause: Cause,
     pub line: usize,
     pub column: usize,
 }
 
-// Where a field begins.
-#[derive(Clone, Copy)]
+impl fmt::Display for Fault {
+    /// As `refused 18 file line=4 column=31`, and after a house's refusal its reason, as ` reason=3`.
+    fn fmt<W: fmt::Write>(&self, f: &mut fmt::Formatter<W>) -> fmt::Result {
+        let Fault {
+            cause,
+            line,
+            column,
+        } = *self;
+        let number = cause.number();
+        let layer = cause.layer();
+        write!(f, "refused {number} {layer} line={line} column={column}")?;
+        match cause.reason() {
+            Some(reason) => write!(f, " reason={reason}"),
+            None => Ok(()),
+        }
+    }
+}
+
+impl Error for Fault {}
+
+/// Where a field begins.
+#[derive(Clone, Copy, PartialEq, Eq, Debug)]
 pub struct Place {
     pub line: usize,
     pub column: usize,
 }
 
 impl Place {
-    // The fault of what stands so many bytes to the right.
-    pub fn fault(self, cause: Cause, offset: usize) -> Fault
-        requires { self.column + offset < 2 ^ 64 }
-        ensures { result ≡ placed self (record { cause = cause; offset = offset }) }
+    /// A misfit of the field that begins here, as a fault.
+    pub fn fault(self, misfit: Misfit) -> Fault
+        requires { self.column + misfit.offset < 2 ^ 64 }
+        ensures { result ≡ placed self misfit }
     {
         Fault {
-            cause,
+            cause: misfit.cause,
             line: self.line,
-            column: self.column + offset,
+            column: self.column + misfit.offset,
         }
     }
 
-    // The place so many bytes to the right.
+    /// The place so many bytes to the right.
     pub fn right(self, by: usize) -> Place
         requires { self.column + by < 2 ^ 64 }
         ensures { result ≡ right self by }

@@ -1,2 +1,3 @@
 mod Characters
+mod Indents
 mod Judged

@@ -3,7 +3,7 @@ use Rattle.std.specs.Prelude.{ℕ, zero, suc, ◌+◌, ◌-◌, ◌*◌, ◌/◌
 use Rattle.faults.specs.declared.Cause.{Cause}
 use Rattle.faults.specs.declared.Cause.TheVariants.{TooWide, Empty, NoSuchValue}
 use Rattle.fields.specs.declared.date.Date.{Date}
-use Rattle.faults.specs.Faults.{Misfit}
+use Rattle.faults.specs.declared.Misfit.{Misfit}
 use Rattle.kinds.specs.Kinds.{Kind, AllFrom}
 
 -- the first column of a field is where it is refused as a whole

@@ -1,8 +1,8 @@
 -- Fields of characters: fixed bytes, texts, accounts and marks.
 use Rattle.std.specs.Prelude.{ℕ, zero, suc, ◌+◌, ◌-◌, Bool, false, cond, ◌&&◌, ◌||◌, List, [], ◌∷◌, ◌++◌, length, take, drop, replicate, Some, None, codes, Option, ◌==◌, nat_le, nat_lt, slice_index}
-use Rattle.std.specs.List.{prefix_len}
+use Rattle.std.specs.List.{prefix_len, list_any}
 use Rattle.faults.specs.declared.Cause.TheVariants.{TooWide, WrongByte, Empty, StrayBlank}
-use Rattle.faults.specs.Faults.{Misfit}
+use Rattle.faults.specs.declared.Misfit.{Misfit}
 use Rattle.kinds.specs.Kinds.{Kind, refused_from}
 use Rattle.fields.specs.Numbers.{whole, digit}
 
@@ -64,8 +64,7 @@ account_byte b = digit b || (b == 45 || is_blank b)
 
 -- a digit 1 to 9 stands among the bytes
 abbrev pub positive : List ℕ → Bool
-positive [] = false
-positive (b ∷ bs) = (nat_le 49 b && nat_le b 57) || positive bs
+positive bs = list_any (λ b. nat_le 49 b && nat_le b 57) bs
 
 -- the first blank, the list's first standing at place i
 abbrev pub first_blank : ℕ → List ℕ → Option Misfit

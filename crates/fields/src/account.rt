@@ -1,35 +1,23 @@
-// An account: digits and hyphens, right justified, blank filled.
-ghost use Rattle.std.specs.Prelude.{◌≡◌, ◌+◌, ◌^◌, ◌<◌, ◌≤◌, length};
-ghost use Rattle.kinds.specs.Kinds.{answered, placed_at};
+//! An account: digits and hyphens, right justified, blank filled.
+ghost use Rattle.std.specs.Prelude.{◌≡◌, ◌==◌, not, position, ◌+◌, ◌^◌, ◌<◌, ◌≤◌, length, refl};
+ghost use Rattle.kinds.specs.Kinds.{answered};
 ghost use Rattle.fields.specs.Texts.{account_kind, account_byte, account_flaw, positive, indent};
 ghost use Rattle.fields.specs.Laws.Accounts.{account_lawful};
 
-use faults::{Cause, Fault, Place};
-use kinds::alphabet::{Alphabet, scan};
+use crate::whole::expect;
+use faults::{Cause, Misfit};
 use kinds::kind::FieldKind;
+use kinds::shape::{Shape, scan};
 
-// An account of nine columns, with at least one digit 1 to 9.
-#[derive(Clone, Copy)]
+/// An account of nine columns, with at least one digit 1 to 9; its value is the bytes after the blanks.
+#[derive(Clone, Copy, PartialEq, Eq, Debug)]
 pub struct Account;
 
-fn is_account_byte(byte: u8) -> bool
-    ensures { result ≡ account_byte byte }
+// Where the first byte that is not blank stands.
+fn first_solid(field: &[u8]) -> Option<usize>
+    ensures { result ≡ position (λ b. not (b == 32)) field.now }
 {
-    match byte {
-        b'0'..=b'9' | b'-' | b' ' => true,
-        _ => false,
-    }
-}
-
-#[derive(Clone, Copy)]
-struct AccountBytes;
-
-impl Alphabet for AccountBytes {
-    ghost has = { λ _ _ b. account_byte b };
-
-    fn admits(&self, place: usize, byte: u8) -> bool {
-        is_account_byte(byte)
-    }
+    field.iter().position(|byte| *byte != b' ')
 }
 
 // How many blanks stand before the account.
@@ -37,82 +25,74 @@ fn indent_of(field: &[u8]) -> usize
     ensures within { result ≤ length field.now }
     ensures blanks { result ≡ indent field.now }
 {
-    for i in 0..field.len() {
-        if field[i] != b' ' {
-            return i;
-        }
-    }
-    field.len()
+    first_solid(field).unwrap_or(field.len())
 }
 
 // Whether a digit 1 to 9 stands among the bytes.
 fn is_positive(account: &[u8]) -> bool
     ensures { result ≡ positive account.now }
 {
-    for i in 0..account.len() {
-        if account[i] >= b'1' && account[i] <= b'9' {
-            return true;
-        }
-    }
-    false
+    account.iter().any(|byte| matches!(*byte, b'1'..=b'9'))
 }
 
 // What is wrong with an account whose first byte stands at place `start` of the field.
-fn flaw_from(account: &[u8], start: usize, at: Place) -> Result<(), Fault>
-    requires room { at.column + start + length account.now < 2 ^ 64 }
-    ensures { result ≡ answered (placed_at at (account_flaw start account.now)) tt }
+fn expect_account(account: &[u8], start: usize) -> Result<(), Misfit>
+    requires room { start + length account.now < 2 ^ 64 }
+    ensures { result ≡ answered (account_flaw start account.now) tt }
 {
-    if !is_positive(account) {
-        return Err(at.fault(Cause::Empty, 0));
-    }
-    for i in 0..account.len() {
-        if account[i] == b' ' {
-            return Err(at.fault(Cause::StrayBlank, start + i));
+    expect(is_positive(account), Cause::Empty)?;
+    for (i, byte) in account.iter().enumerate() {
+        if *byte == b' ' {
+            return Err(Misfit {
+                cause: Cause::StrayBlank,
+                offset: start + i,
+            });
         }
     }
     Ok(())
 }
 
+impl Shape for Account {
+    const WIDTH: usize = 9;
+
+    ghost WIDTH = { 9 };
+
+    ghost admits = { λ _ _ b. account_byte b };
+
+    fn admits(&self, _place: usize, byte: u8) -> bool {
+        matches!(byte, b'0'..=b'9' | b'-' | b' ')
+    }
+}
+
 impl<'a> FieldKind<'a> for Account {
     type Value = &'a [u8];
-
-    const WIDTH: usize = 9;
 
     ghost kind = { λ _. account_kind };
 
     ghost shown = { λ _ v. v.now };
 
+    ghost shape = { λ _. (refl, refl) };
+
     ghost laws = { λ _. account_lawful };
 
-    fn columns(&self) -> usize
-        ensures { result ≡ 9 }
-    {
-        Self::WIDTH
-    }
-
-    fn scan(&self, field: &'a [u8], at: Place) -> Result<(), Fault> {
-        scan(&AccountBytes, field, 0, at)
-    }
-
-    fn value(&self, field: &'a [u8], at: Place) -> Result<&'a [u8], Fault> {
+    fn value(&self, field: &'a [u8]) -> Result<&'a [u8], Misfit> {
         let start = indent_of(field);
         let account = &field[start..];
-        flaw_from(account, start, at)?;
+        expect_account(account, start)?;
         Ok(account)
     }
 
-    fn judge(&self, value: &'a [u8], at: Place) -> Result<(), Fault> {
-        if value.len() > 9 {
-            return Err(at.fault(Cause::TooWide, 0));
-        }
+    #[tactic(auto, using(crate::proofs::Judged::by_byte, crate::proofs::Judged::past_bytes))]
+    fn judge(&self, value: &'a [u8]) -> Result<(), Misfit> {
+        expect(value.len() <= 9, Cause::TooWide)?;
         let start = 9 - value.len();
-        scan(&AccountBytes, value, start, at)?;
-        flaw_from(value, start, at)
+        scan(self, value, start)?;
+        expect_account(value, start)
     }
 
     fn spell(&self, value: &'a [u8], out: &mut [u8]) {
-        let start = 9 - value.len();
-        out[0..start].fill(b' ');
-        out[start..].copy_from_slice(value);
+        let (blanks, account) = out.split_at_mut(9 - value.len());
+        blanks.fill(b' ');
+        account.copy_from_slice(value);
     }
 }

@@ -1,19 +1,24 @@
-// A bank, state and branch: three digits, a hyphen, three digits.
-ghost use Rattle.std.specs.Prelude.{◌≡◌};
+//! A bank, state and branch: three digits, a hyphen, three digits.
+ghost use Rattle.std.specs.Prelude.{◌≡◌, refl};
 ghost use Rattle.fields.specs.Laws.Dates.{bsb_lawful};
 ghost use Rattle.fields.specs.Numbers.{bsb_kind};
 
 use crate::number::{is_digit, number_of, spell_digits};
-use faults::{Cause, Fault, Place};
-use kinds::alphabet::{Alphabet, scan};
+use crate::whole::expect;
+use faults::{Cause, Misfit};
 use kinds::kind::FieldKind;
+use kinds::shape::Shape;
 
-// A BSB, whose value is the number of its six digits.
-#[derive(Clone, Copy)]
+/// A BSB, whose value is the number of its six digits.
+#[derive(Clone, Copy, PartialEq, Eq, Debug)]
 pub struct Bsb;
 
-impl Alphabet for Bsb {
-    ghost has = { λ _. bsb_kind.admits };
+impl Shape for Bsb {
+    const WIDTH: usize = 7;
+
+    ghost WIDTH = { 7 };
+
+    ghost admits = { λ _. bsb_kind.admits };
 
     fn admits(&self, place: usize, byte: u8) -> bool {
         if place == 3 {
@@ -27,36 +32,27 @@ impl Alphabet for Bsb {
 impl<'a> FieldKind<'a> for Bsb {
     type Value = u64;
 
-    const WIDTH: usize = 7;
-
     ghost kind = { λ _. bsb_kind };
 
     ghost shown = { λ _ n. n };
 
+    ghost shape = { λ _. (refl, refl) };
+
     ghost laws = { λ _. bsb_lawful };
 
-    fn columns(&self) -> usize {
-        Self::WIDTH
-    }
-
-    fn scan(&self, field: &'a [u8], at: Place) -> Result<(), Fault> {
-        scan(self, field, 0, at)
-    }
-
-    fn value(&self, field: &'a [u8], at: Place) -> Result<u64, Fault> {
+    fn value(&self, field: &'a [u8]) -> Result<u64, Misfit> {
         Ok(number_of(&field[0..3]) * 1000 + number_of(&field[4..7]))
     }
 
-    fn judge(&self, value: u64, at: Place) -> Result<(), Fault> {
-        if value >= 1_000_000 {
-            return Err(at.fault(Cause::TooWide, 0));
-        }
-        Ok(())
+    fn judge(&self, value: u64) -> Result<(), Misfit> {
+        expect(value < 1_000_000, Cause::TooWide)
     }
 
     fn spell(&self, value: u64, out: &mut [u8]) {
-        spell_digits(value / 1000, &mut out[0..3]);
-        out[3..4].copy_from_slice(b"-");
-        spell_digits(value % 1000, &mut out[4..7]);
+        let (bank, rest) = out.split_at_mut(3);
+        let (hyphen, branch) = rest.split_at_mut(1);
+        spell_digits(value / 1000, bank);
+        hyphen.fill(b'-');
+        spell_digits(value % 1000, branch);
     }
 }

@@ -1,5 +1,7 @@
-// A day of the calendar.
-#[derive(Clone, Copy)]
+//! A day of the calendar.
+
+/// A day of the calendar, or any three numbers that a form gives for one.
+#[derive(Clone, Copy, PartialEq, Eq, Debug)]
 pub struct Date {
     pub day: u64,
     pub month: u64,

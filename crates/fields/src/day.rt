@@ -1,13 +1,14 @@
-// A day of the years 2000 to 2099, as DDMMYY.
-ghost use Rattle.std.specs.Prelude.{◌≡◌, length};
+//! A day of the years 2000 to 2099, as DDMMYY.
+ghost use Rattle.std.specs.Prelude.{◌≡◌, length, refl};
 ghost use Rattle.fields.specs.Laws.Dates.{date_lawful};
-ghost use Rattle.fields.specs.Numbers.{date_kind, date_of, a_day, days_in, leap, AllDigits};
+ghost use Rattle.fields.specs.Numbers.{date_kind, date_of, a_day, days_in, leap, digit, AllDigits};
 
 use crate::date::Date;
-use crate::number::{Digits, number_of, spell_digits};
-use faults::{Cause, Fault, Place};
-use kinds::alphabet::scan;
+use crate::number::{is_digit, number_of, spell_digits};
+use crate::whole::expect;
+use faults::{Cause, Misfit};
 use kinds::kind::FieldKind;
+use kinds::shape::Shape;
 
 fn is_leap(year: u64) -> bool
     ensures { result ≡ leap year }
@@ -47,45 +48,42 @@ fn date_of(field: &[u8]) -> Date
     }
 }
 
-// A date, DDMMYY.
-#[derive(Clone, Copy)]
+/// A date, DDMMYY.
+#[derive(Clone, Copy, PartialEq, Eq, Debug)]
 pub struct Day;
+
+impl Shape for Day {
+    const WIDTH: usize = 6;
+
+    ghost WIDTH = { 6 };
+
+    ghost admits = { λ _ _ b. digit b };
+
+    fn admits(&self, _place: usize, byte: u8) -> bool {
+        is_digit(byte)
+    }
+}
 
 impl<'a> FieldKind<'a> for Day {
     type Value = Date;
-
-    const WIDTH: usize = 6;
 
     ghost kind = { λ _. date_kind };
 
     ghost shown = { λ _ d. d };
 
+    ghost shape = { λ _. (refl, refl) };
+
     ghost laws = { λ _. date_lawful };
 
-    fn columns(&self) -> usize {
-        Self::WIDTH
-    }
-
-    fn scan(&self, field: &'a [u8], at: Place) -> Result<(), Fault> {
-        scan(&Digits, field, 0, at)
-    }
-
-    fn value(&self, field: &'a [u8], at: Place) -> Result<Date, Fault> {
+    fn value(&self, field: &'a [u8]) -> Result<Date, Misfit> {
         let date = date_of(field);
-        if !is_day(date) {
-            return Err(at.fault(Cause::NoSuchValue, 0));
-        }
+        expect(is_day(date), Cause::NoSuchValue)?;
         Ok(date)
     }
 
-    fn judge(&self, value: Date, at: Place) -> Result<(), Fault> {
-        if value.year < 2000 || value.year > 2099 {
-            return Err(at.fault(Cause::TooWide, 0));
-        }
-        if !is_day(value) {
-            return Err(at.fault(Cause::NoSuchValue, 0));
-        }
-        Ok(())
+    fn judge(&self, value: Date) -> Result<(), Misfit> {
+        expect(2000 <= value.year && value.year <= 2099, Cause::TooWide)?;
+        expect(is_day(value), Cause::NoSuchValue)
     }
 
     fn spell(&self, value: Date, out: &mut [u8]) {

@@ -1,13 +1,13 @@
-// The fields of a Direct Entry record: what may stand in one, what it means, how it is spelled, and what is wrong with it.
+//! The fields of a Direct Entry record: what may stand in one, what it means, how it is spelled, and what is wrong with it.
 
 #![tactic(auto)]
 
 pub mod account;
 pub mod bsb;
-pub mod code;
 pub mod date;
 pub mod day;
 pub mod fixed;
 pub mod mark;
 pub mod number;
 pub mod text;
+mod whole;

@@ -1,13 +1,15 @@
-// A mark of one column: blank, N for new details, or W, X, Y for tax withheld.
-ghost use Rattle.std.specs.Prelude.{◌≡◌, codes};
+//! A mark of one column: blank, N for new details, or W, X, Y for tax withheld.
+ghost use Rattle.std.specs.Prelude.{◌≡◌, codes, refl};
 ghost use Rattle.fields.specs.Texts.{mark_kind, member};
 ghost use Rattle.fields.specs.Laws.Texts.{mark_lawful};
 
-use faults::{Cause, Fault, Place};
-use kinds::alphabet::{Alphabet, scan};
+use crate::whole::expect;
+use faults::{Cause, Misfit};
 use kinds::kind::FieldKind;
+use kinds::shape::Shape;
 
-#[derive(Clone, Copy)]
+/// A mark of one column, whose value is its byte.
+#[derive(Clone, Copy, PartialEq, Eq, Debug)]
 pub struct Mark;
 
 fn is_mark(byte: u8) -> bool
@@ -19,10 +21,14 @@ fn is_mark(byte: u8) -> bool
     }
 }
 
-impl Alphabet for Mark {
-    ghost has = { λ _. mark_kind.admits };
+impl Shape for Mark {
+    const WIDTH: usize = 1;
 
-    fn admits(&self, place: usize, byte: u8) -> bool {
+    ghost WIDTH = { 1 };
+
+    ghost admits = { λ _. mark_kind.admits };
+
+    fn admits(&self, _place: usize, byte: u8) -> bool {
         is_mark(byte)
     }
 }
@@ -30,32 +36,20 @@ impl Alphabet for Mark {
 impl<'a> FieldKind<'a> for Mark {
     type Value = u8;
 
-    const WIDTH: usize = 1;
-
     ghost kind = { λ _. mark_kind };
 
     ghost shown = { λ _ v. v };
 
+    ghost shape = { λ _. (refl, refl) };
+
     ghost laws = { λ _. mark_lawful };
 
-    fn columns(&self) -> usize {
-        Self::WIDTH
-    }
-
-    fn scan(&self, field: &'a [u8], at: Place) -> Result<(), Fault> {
-        scan(self, field, 0, at)
-    }
-
-    fn value(&self, field: &'a [u8], at: Place) -> Result<u8, Fault> {
+    fn value(&self, field: &'a [u8]) -> Result<u8, Misfit> {
         Ok(field[0])
     }
 
-    fn judge(&self, value: u8, at: Place) -> Result<(), Fault> {
-        if is_mark(value) {
-            Ok(())
-        } else {
-            Err(at.fault(Cause::WrongByte, 0))
-        }
+    fn judge(&self, value: u8) -> Result<(), Misfit> {
+        expect(is_mark(value), Cause::WrongByte)
     }
 
     fn spell(&self, value: u8, out: &mut [u8]) {

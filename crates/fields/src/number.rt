@@ -1,11 +1,16 @@
-// Digits, right justified, zero filled.
-ghost use Rattle.std.specs.Prelude.{◌≡◌, ℕ, ◌^◌, ◌<◌, ◌≤◌, length};
-ghost use Rattle.fields.specs.Laws.Numbers.{number_lawful};
-ghost use Rattle.fields.specs.Numbers.{number_kind, number_of, digits, AllDigits, digit};
+//! Digits, right justified, zero filled.
+ghost use Rattle.std.specs.Prelude.{◌≡◌, ℕ, ◌^◌, ◌<◌, ◌≤◌, Bool, length, nat_le, refl};
+ghost use Rattle.faults.specs.declared.Cause.{Cause};
+ghost use Rattle.faults.specs.declared.Cause.TheVariants.{Empty, NoSuchValue};
+ghost use Rattle.kinds.specs.Kinds.{answered};
+ghost use Rattle.fields.specs.Laws.Numbers.{numeral_lawful};
+ghost use Rattle.fields.specs.Numbers.{unless, numeral, in_table, number_of, digits, AllDigits, digit};
 
-use faults::{Cause, Fault, Place};
-use kinds::alphabet::{Alphabet, scan};
+use crate::whole::expect;
+use faults::{Cause, Misfit};
 use kinds::kind::FieldKind;
+use kinds::shape::Shape;
+use std::alloc::AllocError;
 
 // The number that digits write.
 pub(crate) fn number_of(bytes: &[u8]) -> u64
@@ -13,82 +18,115 @@ pub(crate) fn number_of(bytes: &[u8]) -> u64
     requires digits { AllDigits bytes.now }
     ensures { result ≡ number_of bytes.now }
 {
-    let mut n: u64 = 0;
-    for b in bytes {
-        n = n * 10 + (*b - b'0') as u64;
+    let mut n = 0;
+    for byte in bytes {
+        n = n * 10 + u64::from(*byte - b'0');
     }
     n
 }
 
-// Writes a number into every column.
+// Writes a number into every column, the last digit first.
 pub(crate) fn spell_digits(n: u64, out: &mut [u8])
     ensures { out.new ≡ digits (length out.old) n }
 {
-    let mut left = n;
-    for i in (0..out.len()).rev() {
-        out[i] = b'0' + (left % 10) as u8;
-        left /= 10;
+    if let Some((last, front)) = out.split_last_mut() {
+        *last = b'0' + (n % 10) as u8;
+        spell_digits(n / 10, front);
     }
 }
 
 pub(crate) fn is_digit(byte: u8) -> bool
     ensures { result ≡ digit byte }
 {
-    b'0' <= byte && byte <= b'9'
+    byte.is_ascii_digit()
 }
 
-#[derive(Clone, Copy)]
-pub struct Digits;
+/// Which numbers a field of digits takes, and what any other is refused for.
+pub trait Numbers: Copy {
+    ghost takes: { ℕ → Bool };
 
-impl Alphabet for Digits {
-    ghost has = { λ _ _ b. digit b };
+    ghost cause: { Cause };
 
-    fn admits(&self, place: usize, byte: u8) -> bool {
+    fn expect(&self, n: u64) -> Result<(), Misfit>
+        ensures { result ≡ answered (unless (takes n) cause) tt };
+}
+
+/// The numbers from `LEAST` up.
+#[derive(Clone, Copy, PartialEq, Eq, Debug)]
+pub struct AtLeast<const LEAST: u64>;
+
+impl<const LEAST: u64> Numbers for AtLeast<LEAST> {
+    ghost takes = { nat_le LEAST };
+
+    ghost cause = { Empty };
+
+    fn expect(&self, n: u64) -> Result<(), Misfit> {
+        expect(n >= LEAST, Cause::Empty)
+    }
+}
+
+/// The transaction codes: 13 is a debit, 50 to 57 are credits.
+#[derive(Clone, Copy, PartialEq, Eq, Debug)]
+pub struct Codes;
+
+impl Numbers for Codes {
+    ghost takes = { in_table };
+
+    ghost cause = { NoSuchValue };
+
+    fn expect(&self, n: u64) -> Result<(), Misfit> {
+        expect(matches!(n, 13 | 50..=57), Cause::NoSuchValue)
+    }
+}
+
+/// A number of `W` columns that is one of some numbers.
+#[derive(PartialEq, Eq, Debug)]
+pub struct Number<const W: usize, N: Numbers> {
+    pub numbers: N,
+    ghost short: { W ≤ 18 },
+}
+
+// By hand: `Clone` is not derived for a struct that has a ghost field and a type parameter.
+impl<const W: usize, N: Numbers> Clone for Number<W, N> {
+    fn clone(&self) -> Result<Number<W, N>, AllocError> {
+        Ok(*self)
+    }
+}
+
+impl<const W: usize, N: Numbers> Copy for Number<W, N> {}
+
+impl<const W: usize, N: Numbers> Shape for Number<W, N> {
+    const WIDTH: usize = W;
+
+    ghost WIDTH = { W };
+
+    ghost admits = { λ _ _ b. digit b };
+
+    fn admits(&self, _place: usize, byte: u8) -> bool {
         is_digit(byte)
     }
 }
 
-// A number of W columns that is at least LEAST.
-#[derive(Clone, Copy)]
-pub struct Number<const W: usize, const LEAST: u64> {
-    ghost short: { W ≤ 18 },
-}
-
-impl<'a, const W: usize, const LEAST: u64> FieldKind<'a> for Number<W, LEAST> {
+impl<'a, const W: usize, N: Numbers> FieldKind<'a> for Number<W, N> {
     type Value = u64;
 
-    const WIDTH: usize = W;
-
-    ghost kind = { λ _. number_kind W LEAST };
+    ghost kind = { λ _. numeral W N.takes N.cause };
 
     ghost shown = { λ _ n. n };
 
-    ghost laws = { λ _. number_lawful W LEAST };
+    ghost shape = { λ _. (refl, refl) };
 
-    fn columns(&self) -> usize {
-        W
-    }
+    ghost laws = { λ _. numeral_lawful W N.takes N.cause };
 
-    fn scan(&self, field: &'a [u8], at: Place) -> Result<(), Fault> {
-        scan(&Digits, field, 0, at)
-    }
-
-    fn value(&self, field: &'a [u8], at: Place) -> Result<u64, Fault> {
+    fn value(&self, field: &'a [u8]) -> Result<u64, Misfit> {
         let n = number_of(field);
-        if n < LEAST {
-            return Err(at.fault(Cause::Empty, 0));
-        }
+        self.numbers.expect(n)?;
         Ok(n)
     }
 
-    fn judge(&self, value: u64, at: Place) -> Result<(), Fault> {
-        if value >= 10u64.pow(W as u32) {
-            return Err(at.fault(Cause::TooWide, 0));
-        }
-        if value < LEAST {
-            return Err(at.fault(Cause::Empty, 0));
-        }
-        Ok(())
+    fn judge(&self, value: u64) -> Result<(), Misfit> {
+        expect(value < 10u64.pow(W as u32), Cause::TooWide)?;
+        self.numbers.expect(value)
     }
 
     fn spell(&self, value: u64, out: &mut [u8]) {

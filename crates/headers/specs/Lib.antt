@@ -1,1 +1,3 @@
 pub mod Headers
+-- `Laws` holds a proof that code cites; nothing there need be believed.
+pub mod Laws

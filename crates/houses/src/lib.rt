@@ -1,8 +1,7 @@
-// A bank's extra rules, behind one interface.
+//! A bank's extra rules, behind one interface.
 
 #![tactic(auto)]
 
-pub mod bytes;
 pub mod house;
 pub mod objection;
 pub mod plain;

@@ -1,4 +1,4 @@
-// The plain house says yes to all.
+//! The plain house says yes to all.
 ghost use Rattle.houses.specs.Laws.{plain_sound};
 ghost use Rattle.houses.specs.Rules.{plain_rules};
 
@@ -8,7 +8,8 @@ use headers::Header;
 use payments::Payment;
 use tally::Tally;
 
-#[derive(Clone, Copy)]
+/// Says yes to all.
+#[derive(Clone, Copy, PartialEq, Eq, Debug)]
 pub struct Plain;
 
 impl House for Plain {

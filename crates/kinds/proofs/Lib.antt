@@ -1,6 +1,4 @@
 pub mod Answers
-pub mod Joined
-pub mod Lists
+pub mod Forms
 pub mod RoundTrip
 pub mod Scan
-pub mod Shapes

@@ -1,31 +1,35 @@
--- The scan for the first byte that is not admitted, one byte at a time.
-use Rattle.std.proofs.Common.{◌≡◌, ℕ, ◌+◌, ◌<◌, ◌≤◌, Bool, true, false, cond, List, [], ◌∷◌, length, get_or, drop, Some, None, Option, refl, ◌∙◌, add_assoc, arith}
-use Rattle.std.proofs.lemmas.List.{at_drop_more, at_drop_all}
+-- The scan for the first byte that is not admitted, and what comes after it.
+use Rattle.std.proofs.Common.{◌≡◌, ℕ, ◌+◌, ◌<◌, Bool, true, false, cond, List, [], ◌∷◌, length, Some, None, Ok, Err, Option, Result, refl, arith}
 use Rattle.faults.specs.declared.Cause.TheVariants.{WrongByte}
-use Rattle.faults.specs.Faults.{Misfit}
-use Rattle.faults.specs.declared.Fault.{Fault}
-use Rattle.faults.specs.declared.Place.{Place}
-use Rattle.kinds.specs.Kinds.{refused_from, placed_at}
+use Rattle.faults.specs.declared.Misfit.{Misfit}
+use Rattle.kinds.specs.Kinds.{Kind, AllFrom, refused_from, fault, answered}
 
-module _ (admits : ℕ → ℕ → Bool) (bs : List ℕ) (start i : ℕ) (within : i < length bs) where
-  here : refused_from admits (start + i) (drop i bs) None ≡ refused_from admits (start + i) (get_or bs i 0 ∷ drop (i + 1) bs) None
-  here = at_drop_more (λ xs. refused_from admits (start + i) xs None) bs i 0 within
+module _ (admits : ℕ → ℕ → Bool) where
+  -- a byte that is not admitted comes before what comes later, and stands among the bytes
+  pub refused_first : (n : ℕ) (bs : List ℕ) (later : Option Misfit) (m : Misfit) → ◌≡◌ {A = Result (Unit {0}) Misfit} (Err m) (answered (refused_from admits n bs None) tt) → (refused_from admits n bs later ≡ Some m) × (m.offset < n + length bs)
+  refused_first n [] later m h = absurd cc
+  refused_first n (b ∷ bs) later m h =
+      elim (admits n b) as (λ t. ◌≡◌ {A = Result (Unit {0}) Misfit} (Err m) (answered (cond t (refused_from admits (n + 1) bs None) (Some (record { cause = WrongByte; offset = n }))) tt) → (cond t (refused_from admits (n + 1) bs later) (Some (record { cause = WrongByte; offset = n })) ≡ Some m) × (m.offset < n + length (b ∷ bs))) [
+        | true ↦ λ e. let r = refused_first (n + 1) bs later m e in (r.0, omega (arith, r.1))
+        | false ↦ λ e. let same : record { cause = WrongByte; offset = n } ≡ m = cc in (cc, rw (← same) (omega arith))
+      ] h
 
-  pub scan_on : admits (start + i) (get_or bs i 0) ≡ true → refused_from admits (start + i) (drop i bs) None ≡ refused_from admits (start + (i + 1)) (drop (i + 1) bs) None
-  scan_on e = here ∙ rw (e, add_assoc start i 1) refl
+  -- where every byte is admitted, what comes later comes
+  pub then_later : (n : ℕ) (bs : List ℕ) (later : Option Misfit) (u : Unit {0}) → ◌≡◌ {A = Result (Unit {0}) Misfit} (Ok u) (answered (refused_from admits n bs None) tt) → AllFrom admits n bs × (refused_from admits n bs later ≡ later)
+  then_later n [] later u h = (tt, refl)
+  then_later n (b ∷ bs) later u h =
+      elim (admits n b) as (λ t. ◌≡◌ {A = Result (Unit {0}) Misfit} (Ok u) (answered (cond t (refused_from admits (n + 1) bs None) (Some (record { cause = WrongByte; offset = n }))) tt) → ((t ≡ true) × AllFrom admits (n + 1) bs) × (cond t (refused_from admits (n + 1) bs later) (Some (record { cause = WrongByte; offset = n })) ≡ later)) [
+        | true ↦ λ e. let r = then_later (n + 1) bs later u e in ((refl, r.0), r.1)
+        | false ↦ λ e. absurd cc
+      ] h
 
-  pub scan_stops : admits (start + i) (get_or bs i 0) ≡ false → refused_from admits (start + i) (drop i bs) None ≡ Some (record { cause = WrongByte; offset = start + i })
-  scan_stops e = here ∙ rw e refl
+-- the same of a field
+module _ (k : Kind) (bs : List ℕ) where
+  pub field_refused : (m : Misfit) → ◌≡◌ {A = Result (Unit {0}) Misfit} (Err m) (answered (refused_from k.admits 0 bs None) tt) → fault k bs ≡ Some m
+  field_refused m h = (refused_first k.admits 0 bs (k.flaw bs) m h).0
 
-pub scanned : (admits : ℕ → ℕ → Bool) (bs : List ℕ) (n i : ℕ) → length bs ≤ i → refused_from admits n (drop i bs) None ≡ None
-scanned admits bs n i past = at_drop_all (λ xs. refused_from admits n xs None) bs i past
+  pub field_admitted : (u : Unit {0}) → ◌≡◌ {A = Result (Unit {0}) Misfit} (Ok u) (answered (refused_from k.admits 0 bs None) tt) → AllFrom k.admits 0 bs
+  field_admitted u h = (then_later k.admits 0 bs None u h).0
 
--- what comes after the bytes comes where every byte is admitted
-pub then_later : (admits : ℕ → ℕ → Bool) (n : ℕ) (bs : List ℕ) (later : Option Misfit) → refused_from admits n bs None ≡ None → refused_from admits n bs later ≡ later
-then_later admits n [] later h = refl
-then_later admits n (b ∷ bs) later h = elim (admits n b) as (λ t. cond t (refused_from admits (n + 1) bs None) (Some (record { cause = WrongByte; offset = n })) ≡ None → cond t (refused_from admits (n + 1) bs later) (Some (record { cause = WrongByte; offset = n })) ≡ later) [ true ↦ then_later admits (n + 1) bs later | false ↦ λ e. let z : ◌≡◌ {A = ℕ} 0 1 = cc in absurd (omega arith) ] h
-
--- the first byte that is not admitted comes before what comes later
-pub refused_first : (admits : ℕ → ℕ → Bool) (n : ℕ) (bs : List ℕ) (later : Option Misfit) (p : Place) (f : Fault) → placed_at p (refused_from admits n bs None) ≡ Some f → placed_at p (refused_from admits n bs later) ≡ Some f
-refused_first admits n [] later p f h = let z : ◌≡◌ {A = ℕ} 0 1 = cc in absurd (omega arith)
-refused_first admits n (b ∷ bs) later p f h = elim (admits n b) as (λ t. placed_at p (cond t (refused_from admits (n + 1) bs None) (Some (record { cause = WrongByte; offset = n }))) ≡ Some f → placed_at p (cond t (refused_from admits (n + 1) bs later) (Some (record { cause = WrongByte; offset = n }))) ≡ Some f) [ true ↦ refused_first admits (n + 1) bs later p f | false ↦ λ e. e ] h
+  pub field_flaw : (u : Unit {0}) → ◌≡◌ {A = Result (Unit {0}) Misfit} (Ok u) (answered (refused_from k.admits 0 bs None) tt) → fault k bs ≡ k.flaw bs
+  field_flaw u h = (then_later k.admits 0 bs (k.flaw bs) u h).1

@@ -1,10 +1,10 @@
 -- Bytes that are all admitted, and the scan that finds none refused.
-use Rattle.std.specs.Prelude.{◌≡◌, ℕ, zero, suc, ◌+◌, ◌<◌, ◌≤◌, Bool, true, false, cond, List, [], ◌∷◌, ◌++◌, length, take, drop, replicate, Some, None, Option, slice_index, refl}
+use Rattle.std.specs.Prelude.{◌≡◌, ℕ, zero, suc, ◌+◌, ◌<◌, ◌≤◌, Bool, true, false, cond, List, [], ◌∷◌, ◌++◌, length, take, drop, replicate, IfSome, Some, None, Option, slice_index, refl}
 use Rattle.std.proofs.Common.{sym, subst, add-zero, arith, take-append-drop}
 use Rattle.std.specs.List.{AllByRecursion}
 use Rattle.std.proofs.lemmas.List.{length-take-le}
 use Rattle.faults.specs.declared.Cause.TheVariants.{WrongByte}
-use Rattle.faults.specs.Faults.{Misfit}
+use Rattle.faults.specs.declared.Misfit.{Misfit}
 use Rattle.kinds.specs.Kinds.{refused_from, AllFrom}
 
 pub all_admitted : (admits : ℕ → ℕ → Bool) (i : ℕ) (bs : List ℕ) (later : Option Misfit) → AllFrom admits i bs → refused_from admits i bs later ≡ later
@@ -16,7 +16,7 @@ none_refused admits i [] later h = (tt, h)
 none_refused admits i (b ∷ bs) later h =
     elim (admits i b) as (λ t. cond t (refused_from admits (i + 1) bs later) (Some (record { cause = WrongByte; offset = i })) ≡ None → ((t ≡ true) × AllFrom admits (i + 1) bs) × (later ≡ None)) [
       | true ↦ λ e. let r = none_refused admits (i + 1) bs later e in ((refl, r.0), r.1)
-      | false ↦ λ e. let z : ◌≡◌ {A = ℕ} 0 1 = cc in absurd (omega arith)
+      | false ↦ λ e. absurd cc
     ] h
 
 pub all_append : (admits : ℕ → ℕ → Bool) (i : ℕ) (xs ys : List ℕ) → AllFrom admits i xs → AllFrom admits (i + length xs) ys → AllFrom admits i (xs ++ ys)
@@ -80,9 +80,21 @@ module _ (test : ℕ → Bool) where
 
 -- a test by which nothing is refused came out so, and nothing comes later
 pub unless_true : (t : Bool) (m : Misfit) (later : Option Misfit) → cond t (Some m) later ≡ None → (t ≡ false) × (later ≡ None)
-unless_true true m later h = let z : ◌≡◌ {A = ℕ} 0 1 = cc in absurd (omega arith)
+unless_true true m later h = absurd cc
 unless_true false m later h = (refl, h)
 
 pub unless_false : (t : Bool) (m : Misfit) (later : Option Misfit) → cond t later (Some m) ≡ None → (t ≡ true) × (later ≡ None)
 unless_false true m later h = (refl, h)
-unless_false false m later h = let z : ◌≡◌ {A = ℕ} 0 1 = cc in absurd (omega arith)
+unless_false false m later h = absurd cc
+
+-- a misfit that stands in a field of so many columns, or right behind it
+abbrev pub Within : ℕ → Option Misfit → Type 0
+Within w o = IfSome o (λ m. m.offset ≤ w)
+
+pub within_cond : (w : ℕ) (t : Bool) (a b : Option Misfit) → Within w a → Within w b → Within w (cond t a b)
+within_cond w true a b ha hb = ha
+within_cond w false a b ha hb = hb
+
+pub within_refused : (w : ℕ) (admits : ℕ → ℕ → Bool) (i : ℕ) (bs : List ℕ) (later : Option Misfit) → i + length bs ≤ w → Within w later → Within w (refused_from admits i bs later)
+within_refused w admits i [] later fits h = h
+within_refused w admits i (b ∷ bs) later fits h = within_cond w (admits i b) _ _ (within_refused w admits (i + 1) bs later (omega arith) h) (omega arith)

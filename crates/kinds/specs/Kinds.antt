@@ -1,9 +1,10 @@
 -- What a kind of field is, and what every kind owes.
-use Rattle.std.specs.Prelude.{◌≡◌, ℕ, ◌+◌, Bool, true, cond, List, [], ◌∷◌, length, Some, None, Ok, Err, Option, Result}
+use Rattle.std.specs.Prelude.{◌≡◌, ℕ, ◌+◌, ◌≤◌, Bool, true, cond, IfSome, List, [], ◌∷◌, length, Some, None, Ok, Err, Option, Result}
 use Rattle.faults.specs.declared.Cause.TheVariants.{WrongByte}
 use Rattle.faults.specs.declared.Fault.{Fault}
 use Rattle.faults.specs.declared.Place.{Place}
-use Rattle.faults.specs.Faults.{Misfit, placed}
+use Rattle.faults.specs.declared.Misfit.{Misfit}
+use Rattle.faults.specs.Faults.{placed}
 
 pub record Kind : Type 1 where
   pub Value : Type 0
@@ -32,6 +33,9 @@ abbrev pub fault : Kind → List ℕ → Option Misfit
 fault k bs = refused_from k.admits 0 bs (k.flaw bs)
 
 pub record Lawful (k : Kind) : Type 0 where
+  -- what is wrong stands in the field, or right behind it
+  pub flaw_within : (bs : List ℕ) → length bs ≡ k.width → IfSome (k.flaw bs) (λ m. m.offset ≤ k.width)
+  pub wrong_within : (v : k.Value) → IfSome (k.wrong v) (λ m. m.offset ≤ k.width)
   pub spelled_width : (v : k.Value) → k.wrong v ≡ None → length (k.spell v) ≡ k.width
   pub spelled_proper : (v : k.Value) → k.wrong v ≡ None → fault k (k.spell v) ≡ None
   pub read_back : (v : k.Value) → k.wrong v ≡ None → k.value (k.spell v) ≡ v
@@ -44,11 +48,11 @@ placed_at p None = None
 placed_at p (Some m) = Some (placed p m)
 
 -- the first fault, or else the value
-abbrev pub answered : {V : Type 0} → Option Fault → V → Result V Fault
+abbrev pub answered : {V E : Type 0} → Option E → V → Result V E
 answered None v = Ok v
-answered (Some f) v = Err f
+answered (Some e) v = Err e
 
 -- an answer of the program as one of the definitions
-abbrev pub map_ok : {V W : Type 0} → (V → W) → Result V Fault → Result W Fault
+abbrev pub map_ok : {V W E : Type 0} → (V → W) → Result V E → Result W E
 map_ok f (Ok v) = Ok (f v)
 map_ok f (Err e) = Err e

@@ -1,79 +1,74 @@
-// A record as a row of fields, read, judged and spelled by one text for every layout.
-ghost use Rattle.std.specs.Prelude.{◌≡◌, ℕ, ◌+◌, ◌^◌, ◌<◌, ◌≤◌, length, OnOk};
-ghost use Rattle.kinds.specs.Kinds.{answered, map_ok};
-ghost use Rattle.kinds.specs.Layouts.{Row, end, then, Values, size, AllLawful, first_fault, values, form_fault, spelled};
+//! A record as a row of fields, read, judged and spelled by one text for every layout.
+ghost use Rattle.std.specs.Prelude.{◌≡◌, ◌+◌, ◌^◌, ◌<◌, List, [], ◌∷◌, length, OnOk};
+ghost use Rattle.kinds.specs.Kinds.{Kind, answered, map_ok};
+ghost use Rattle.kinds.specs.Layouts.{Values, size, AllLawful, first_fault, values, form_fault, spelled};
 
-use crate::kind::{FieldKind, take_field};
+use crate::kind::{FieldKind, judge_field, take_field};
 use faults::{Fault, Place};
 
+// `room` stays with each call: a place is any line and column, and a bound in its type would be asked for where one is made.
+/// A row of fields: nothing, `()`, or a kind and the row after it, `(kind, row)`.
 pub trait Layout<'a> {
-    type Fields: Copy;
+    type Values: Copy;
 
-    ghost row: { Self → Row };
+    ghost kinds: { Self → List Kind };
 
-    ghost shown: { (s : Self) → Self.Fields → Values (row s) };
+    ghost shown: { (s : Self) → Self.Values → Values (kinds s) };
 
-    ghost laws: { (s : Self) → AllLawful (row s) };
+    /// The values of a record's fields, or its first fault.
+    fn read(&self, bytes: &'a [u8], at: Place) -> Result<Self::Values, Fault>
+        requires width { length bytes.now ≡ size (kinds self.now) }
+        requires room { at.column + size (kinds self.now) < 2 ^ 64 }
+        ensures { map_ok (shown self.now) result ≡ answered (first_fault (kinds self.now) at bytes.now) (values (kinds self.now) bytes.now) };
 
-    // The values of a record's fields, or its first fault.
-    fn read(&self, bytes: &'a [u8], at: Place) -> Result<Self::Fields, Fault>
-        requires width { length bytes.now ≡ size (row self.now) }
-        requires room { at.column + size (row self.now) < 2 ^ 64 }
-        ensures { map_ok (shown self.now) result ≡ answered (first_fault (row self.now) at bytes.now) (values (row self.now) bytes.now) };
+    /// Writes a form's values, each in its columns, up to the first that is refused.
+    fn spell(&self, values: Self::Values, at: Place, out: &mut [u8]) -> Result<(), Fault>
+        requires width { length out.old ≡ size (kinds self.now) }
+        requires room { at.column + size (kinds self.now) < 2 ^ 64 }
+        ensures answer { result ≡ answered (form_fault (kinds self.now) at (shown self.now values)) tt }
+        ensures after { OnOk result (out.new ≡ spelled (kinds self.now) (shown self.now values)) };
 
-    // Writes a form's values, each in its columns, up to the first that is refused.
-    fn spell(&self, fields: Self::Fields, at: Place, out: &mut [u8]) -> Result<(), Fault>
-        requires width { length out.old ≡ size (row self.now) }
-        requires room { at.column + size (row self.now) < 2 ^ 64 }
-        ensures answer { result ≡ answered (form_fault (row self.now) at (shown self.now fields)) tt }
-        ensures after { OnOk result (out.new ≡ spelled (row self.now) (shown self.now fields)) };
+    ghost laws: { (s : Self) → AllLawful (kinds s) };
 }
 
-#[derive(Clone, Copy)]
-pub struct End;
+impl<'a> Layout<'a> for () {
+    type Values = ();
 
-#[derive(Clone, Copy)]
-pub struct Then<K, L>(pub K, pub L);
-
-impl<'a> Layout<'a> for End {
-    type Fields = ();
-
-    ghost row = { λ _. end };
+    ghost kinds = { λ _. [] };
 
     ghost shown = { λ _ v. v };
 
     ghost laws = { λ _. tt };
 
-    fn read(&self, bytes: &'a [u8], at: Place) -> Result<(), Fault> {
+    fn read(&self, _bytes: &'a [u8], _at: Place) -> Result<(), Fault> {
         Ok(())
     }
 
-    fn spell(&self, fields: (), at: Place, out: &mut [u8]) -> Result<(), Fault> {
+    fn spell(&self, _values: (), _at: Place, _out: &mut [u8]) -> Result<(), Fault> {
         Ok(())
     }
 }
 
-impl<'a, K: FieldKind<'a>, L: Layout<'a>> Layout<'a> for Then<K, L> {
-    type Fields = (K::Value, L::Fields);
+impl<'a, K: FieldKind<'a>, L: Layout<'a>> Layout<'a> for (K, L) {
+    type Values = (K::Value, L::Values);
 
-    ghost row = { λ s. then (K.FieldKind.kind s.0) (L.Layout.row s.1) };
+    ghost kinds = { λ s. K.kind s.0 ∷ L.kinds s.1 };
 
-    ghost shown = { λ s v. (K.FieldKind.shown s.0 v.0, L.Layout.shown s.1 v.1) };
+    ghost shown = { λ s v. (K.shown s.0 v.0, L.shown s.1 v.1) };
 
-    ghost laws = { λ s. (K.FieldKind.laws s.0, L.Layout.laws s.1) };
+    ghost laws = { λ s. (K.laws s.0, L.laws s.1) };
 
-    fn read(&self, bytes: &'a [u8], at: Place) -> Result<(K::Value, L::Fields), Fault> {
-        let width = self.0.columns();
-        let (field, rest) = bytes.split_at(width);
+    fn read(&self, bytes: &'a [u8], at: Place) -> Result<(K::Value, L::Values), Fault> {
+        let (field, rest) = bytes.split_at(K::WIDTH);
         let value = take_field(&self.0, field, at)?;
-        let others = self.1.read(rest, at.right(width))?;
+        let others = self.1.read(rest, at.right(K::WIDTH))?;
         Ok((value, others))
     }
 
-    fn spell(&self, fields: (K::Value, L::Fields), at: Place, out: &mut [u8]) -> Result<(), Fault> {
-        let width = self.0.columns();
-        self.0.judge(fields.0, at)?;
-        self.0.spell(fields.0, &mut out[0..width]);
-        self.1.spell(fields.1, at.right(width), &mut out[width..])
+    fn spell(&self, values: (K::Value, L::Values), at: Place, out: &mut [u8]) -> Result<(), Fault> {
+        judge_field(&self.0, values.0, at)?;
+        let (field, rest) = out.split_at_mut(K::WIDTH);
+        self.0.spell(values.0, field);
+        self.1.spell(values.1, at.right(K::WIDTH), rest)
     }
 }

@@ -4,6 +4,7 @@ use Rattle.std.specs.Prelude.{ℕ, ◌+◌, cond, List, length, take, drop, Some
 use Rattle.faults.specs.declared.Cause.TheVariants.{Short, LineEnd, RecordType}
 use Rattle.faults.specs.declared.Fault.{Fault}
 use Rattle.faults.specs.Faults.{fault_at}
+use Rattle.lines.specs.declared.columns.Line.{Line}
 use Rattle.lines.specs.declared.Tag.{Tag}
 use Rattle.lines.specs.declared.Tag.TheVariants.{Detail, Trailer}
 
@@ -26,9 +27,9 @@ head_fault line byte = cond (byte == 48) None (Some (no_record line))
 abbrev pub tagged : ℕ → ℕ → Result Tag Fault
 tagged line byte = cond (byte == 49) (Ok Detail) (cond (byte == 55) (Ok Trailer) (Err (no_record line)))
 
--- a line's columns, and what follows it
-abbrev pub cut : List ℕ → List ℕ × List ℕ
-cut rest = (take 120 rest, drop 122 rest)
+-- a line's number and columns, and what follows it
+abbrev pub cut : ℕ → List ℕ → (ℕ × List ℕ) × List ℕ
+cut number rest = ((number, take 120 rest), drop 122 rest)
 
-abbrev pub cut_of : Bor (List ℕ) × Bor (List ℕ) → List ℕ × List ℕ
-cut_of c = (c.0.now, c.1.now)
+abbrev pub cut_of : Line × Bor (List ℕ) → (ℕ × List ℕ) × List ℕ
+cut_of c = ((c.0.number, c.0.columns.now), c.1.now)

@@ -1,8 +1,10 @@
 -- The detail: its columns, its values, what is wrong with one, and its spelling.
-use Rattle.std.specs.Prelude.{ℕ, cond, ◌||◌, List, Some, None, codes, Option, ◌==◌}
+use Rattle.std.specs.Prelude.{ℕ, cond, ◌||◌, List, [], ◌∷◌, Some, None, codes, Option, ◌==◌}
 use Rattle.faults.specs.declared.Cause.TheVariants.{TaxUnmarked}
 use Rattle.faults.specs.declared.Fault.{Fault}
-use Rattle.kinds.specs.Layouts.{Row, end, then, Values, or_later, start, first_fault, values, form_fault, spelled}
+use Rattle.kinds.specs.Forms.{Form, record_value, record_fault, record_wrong, record_bytes}
+use Rattle.kinds.specs.Kinds.{Kind}
+use Rattle.kinds.specs.Layouts.{Values}
 use Rattle.fields.specs.Numbers.{number_kind, code_kind, bsb_kind}
 use Rattle.fields.specs.Texts.{fixed_kind, text_kind, account_kind, mark_kind, member}
 use Rattle.payments.specs.declared.Payment.{Payment}
@@ -24,11 +26,34 @@ pub record PaymentOf : Type 0 where
 abbrev pub payment_of : Payment → PaymentOf
 payment_of p = record { bsb = p.bsb; account = p.account.now; mark = p.mark; code = p.code; cents = p.cents; title = p.title.now; reference = p.reference.now; trace_bsb = p.trace_bsb; trace_account = p.trace_account.now; remitter = p.remitter.now; tax = p.tax }
 
--- columns 1; 2 to 8; 9 to 17; 18; 19 and 20; 21 to 30; 31 to 62; 63 to 80; 81 to 87; 88 to 96; 97 to 112; 113 to 120
-abbrev pub payment_row : Row
+-- the kinds of its columns
+abbrev pub payment_row : List Kind
 payment_row =
-    then (fixed_kind (codes "1")) (then bsb_kind (then account_kind (then mark_kind (then code_kind (then (number_kind 10 1)
-    (then (text_kind 32) (then (text_kind 18) (then bsb_kind (then account_kind (then (text_kind 16) (then (number_kind 8 0) end)))))))))))
+    -- column 1
+    fixed_kind (codes "1")
+    -- 2 to 8: the BSB
+    ∷ bsb_kind
+    -- 9 to 17: the account
+    ∷ account_kind
+    -- 18: the mark
+    ∷ mark_kind
+    -- 19 and 20: the code
+    ∷ code_kind
+    -- 21 to 30: cents
+    ∷ number_kind 10 1
+    -- 31 to 62: the title of the account
+    ∷ text_kind 32
+    -- 63 to 80: the reference
+    ∷ text_kind 18
+    -- 81 to 87: the trace BSB
+    ∷ bsb_kind
+    -- 88 to 96: the trace account
+    ∷ account_kind
+    -- 97 to 112: the remitter
+    ∷ text_kind 16
+    -- 113 to 120: tax in cents
+    ∷ number_kind 8 0
+    ∷ []
 
 abbrev pub payment_values : PaymentOf → Values payment_row
 payment_values p = (tt, (p.bsb, (p.account, (p.mark, (p.code, (p.cents, (p.title, (p.reference, (p.trace_bsb, (p.trace_account, (p.remitter, (p.tax, tt))))))))))))
@@ -52,16 +77,19 @@ payment_from v = record {
 abbrev pub tax_fault : ℕ → PaymentOf → Option Fault
 tax_fault line p = cond (p.tax == 0 || member p.mark (codes "WXY")) None (Some (record { cause = TaxUnmarked; line = line; column = 113 }))
 
-abbrev pub payment_value : List ℕ → PaymentOf
-payment_value bs = payment_from (values payment_row bs)
+abbrev pub payment_form : Form
+payment_form = record { Value = PaymentOf; row = payment_row; said = payment_from; fields = payment_values; flaw = tax_fault }
 
--- the first fault of 120 bytes that are a detail
-abbrev pub payment_fault : ℕ → List ℕ → Option Fault
-payment_fault line bs = or_later (first_fault payment_row (start line) bs) (tax_fault line (payment_value bs))
+-- the first fault of 120 bytes that are a detail, and what they say where there is none
+unfoldable pub payment_fault : ℕ → List ℕ → Option Fault
+payment_fault = record_fault payment_form
+
+unfoldable pub payment_value : List ℕ → PaymentOf
+payment_value = record_value payment_form
 
 -- what a form is refused for, and how one that is not refused is spelled
-abbrev pub payment_wrong : PaymentOf → Option Fault
-payment_wrong p = or_later (form_fault payment_row (start 0) (payment_values p)) (tax_fault 0 p)
+unfoldable pub payment_wrong : PaymentOf → Option Fault
+payment_wrong = record_wrong payment_form
 
-abbrev pub payment_bytes : PaymentOf → List ℕ
-payment_bytes p = spelled payment_row (payment_values p)
+unfoldable pub payment_bytes : PaymentOf → List ℕ
+payment_bytes = record_bytes payment_form

@@ -3,13 +3,12 @@ use Rattle.std.proofs.Common.{◌≡◌, ℕ, ◌+◌, ◌^◌, ◌<◌, ◌≤�
 use Rattle.std.proofs.lemmas.List.{nil_from_length}
 use Rattle.std.proofs.lemmas.Bool.Decides.{nat_tests}
 use Rattle.fields.specs.Numbers.{number_kind}
-use Rattle.kinds.proofs.RoundTrip.{round_trip}
+use Rattle.kinds.proofs.Forms.{each_admitted, admitted_each}
 use Rattle.trailers.specs.declared.Trailer.{Trailer}
-use Rattle.kinds.specs.Layouts.{start}
 use Rattle.lines.specs.Lines.{line_fault}
 use Rattle.payments.specs.Payments.{PaymentOf}
-use Rattle.trailers.specs.Trailers.{trailer_row, trailer_values, trailer_fault, trailer_value, trailer_wrong, trailer_bytes}
-use Rattle.trailers.proofs.Shapes.{trailer_lawful}
+use Rattle.trailers.specs.Trailers.{trailer_form, trailer_fault, trailer_value, trailer_wrong, trailer_bytes}
+use Rattle.trailers.specs.Laws.{trailer_lawful}
 use Rattle.houses.specs.Rules.{Rules}
 use Rattle.tally.specs.Tallies.{tallied, totals, credits, debits}
 use Rattle.reading.specs.Exact.{line_of}
@@ -26,14 +25,15 @@ fits_number : (w n : ℕ) → n < 10 ^ w → (number_kind w 0).wrong n ≡ None
 fits_number w n h = grind (arith, nat_tests)
 
 trailer_fits : (t : Trailer) → trailer_wrong t ≡ None → (t.credit < 10 ^ 10) × (t.debit < 10 ^ 10) × (t.count < 10 ^ 6)
+unfolding trailer_wrong
 trailer_fits t h =
-    let each = (round_trip trailer_row trailer_lawful).judged (start 0) (trailer_values t) h in
+    let each = each_admitted trailer_form trailer_lawful t h in
     (number_fits 10 t.credit each.1.1.0, number_fits 10 t.debit each.1.1.1.0, number_fits 6 t.count each.1.1.1.1.1.0)
 
 fits_trailer : (t : Trailer) → t.net < 10 ^ 10 → t.credit < 10 ^ 10 → t.debit < 10 ^ 10 → t.count < 10 ^ 6 → trailer_wrong t ≡ None
+unfolding trailer_wrong
 fits_trailer t net credit debit count =
-    (round_trip trailer_row trailer_lawful).unjudged (start 0) (trailer_values t)
-    (refl, (fits_number 10 t.net net, (fits_number 10 t.credit credit, (fits_number 10 t.debit debit, (refl, (fits_number 6 t.count count, (refl, tt)))))))
+    admitted_each trailer_form trailer_lawful t (refl, (fits_number 10 t.net net, (fits_number 10 t.credit credit, (fits_number 10 t.debit debit, (refl, (fits_number 6 t.count count, (refl, tt))))))) refl
 
 -- when none of the closing refusals comes
 some_since : (line : ℕ) (ps : List PaymentOf) → none_fault line ps ≡ None → 1 ≤ length ps
@@ -42,7 +42,7 @@ some_since line ps h = grind (arith, nat_tests)
 since_some : (line : ℕ) (ps : List PaymentOf) → 1 ≤ length ps → none_fault line ps ≡ None
 since_some line ps h = grind (arith, nat_tests)
 
-totals_same : (line : ℕ) (stated due : Trailer) → totals_fault line stated due ≡ None → stated ≡ due
+pub totals_same : (line : ℕ) (stated due : Trailer) → totals_fault line stated due ≡ None → stated ≡ due
 totals_same line stated due h =
     let net : stated.net ≡ due.net = grind (arith, nat_tests) in
     let credit : stated.credit ≡ due.credit = grind (arith, nat_tests) in

@@ -34,6 +34,7 @@ module _ (R : Rules) (bytes : List ℕ) (ps : List PaymentOf) where
       }
 
   read_only : read_of R bytes ≡ Ok ps → FileOf R bytes ps
+  unfolding read_of
   read_only e =
       let opened = went_on (opening R bytes) (details R 999999 2 []) ps e in
       let rest = opened.0 in
@@ -46,6 +47,7 @@ module _ (R : Rules) (bytes : List ℕ) (ps : List PaymentOf) where
 
   -- the header's line, and what comes after it
   header_read : (h : HeaderOf) (more : List ℕ) → Begins header_spelling 1 bytes h more → R.header h ≡ None → details R 999999 2 [] more ≡ Ok ps → read_of R bytes ≡ Ok ps
+  unfolding read_of
   header_read h more b agreed later =
       let opened : opening R bytes ≡ Ok more =
       passes (line_fault 1 bytes) _ more b.whole

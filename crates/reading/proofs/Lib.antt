@@ -1,12 +1,11 @@
 mod Answered
 mod Closed
 mod Closings
+mod Cuts
 pub mod Exact
 mod Listed
-mod Openings
 mod Passed
 mod Sofar
 mod Spelled
-mod Steps
 mod Taken
 mod Worked

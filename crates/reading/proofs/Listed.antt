@@ -81,6 +81,7 @@ detail_read R left line ps rest p more qs b consent later =
     ((λ i. and_then (said i) (λ q. details R left (line + 1) (ps ++ (q ∷ [])) (b.then i))) ∙ later))
 
 pub details_all : (R : Rules) (left line : ℕ) (ps more qs : List PaymentOf) → length more ≤ left → ps ++ more ≡ qs → AllByRecursion (Agreed R) more → Closed R qs → details R left line ps (payment_lines more ++ trailer_line qs) ≡ Ok qs
+unfolding trailer_bytes
 details_all R zero line ps [] qs few whole agreed c = trailer_read R line ps qs whole c
 details_all R zero line ps (p ∷ more) qs few whole agreed c = absurd (omega arith)
 details_all R (suc left) line ps [] qs few whole agreed c = trailer_read R line ps qs whole c

@@ -9,24 +9,22 @@ use Rattle.faults.specs.declared.Fault.{Fault}
 use Rattle.kinds.specs.Kinds.{answered, map_ok}
 use Rattle.kinds.specs.Admitted.{unless_false}
 use Rattle.fields.specs.Laws.Numbers.{unless_none}
-use Rattle.kinds.specs.Layouts.{Admitted}
 use Rattle.fields.specs.Numbers.{in_table, whole, unless}
 use Rattle.kinds.proofs.Answers.{stopped}
-use Rattle.kinds.proofs.RoundTrip.{round_trip, none_first}
+use Rattle.kinds.proofs.Forms.{each_admitted}
 use Rattle.lines.specs.declared.Tag.{Tag}
 use Rattle.lines.specs.declared.Tag.TheVariants.{Detail, Trailer as IsTrailer}
-use Rattle.kinds.specs.Layouts.{start}
 use Rattle.faults.specs.Faults.{fault_at}
 use Rattle.lines.specs.Lines.{line_fault, tagged, cut}
-use Rattle.payments.specs.Payments.{PaymentOf, payment_row, payment_values, payment_fault, payment_value, payment_wrong}
-use Rattle.payments.proofs.Shapes.{payment_lawful}
+use Rattle.payments.specs.Payments.{PaymentOf, payment_form, payment_fault, payment_value, payment_wrong}
+use Rattle.payments.specs.Laws.{payment_lawful}
 use Rattle.houses.specs.Rules.{Rules}
 use Rattle.tally.specs.Tallies.{TallyOf, tallied, with_payment}
 use Rattle.tally.proofs.Tallied.{tallied_more}
 use Rattle.reading.specs.ByTally.{tally_closing}
 use Rattle.reading.specs.Reading.{past, and_then, by_tag, objected, opening, agreed, details, closing, read_of, summed}
 use Rattle.reading.proofs.Closings.{closing_tallied}
-use Rattle.reading.proofs.Openings.{no_line_fault, columns_are, after_is, first_byte}
+use Rattle.reading.proofs.Cuts.{no_line_fault, number_is, columns_are, after_is, first_byte}
 use Rattle.reading.proofs.Passed.{passed, same_ok, went_well, went_wrong}
 use Rattle.reading.proofs.Spelled.{payment_spelling}
 use Rattle.reading.proofs.Taken.{taken_admitted}
@@ -36,8 +34,9 @@ abbrev pub Sane : PaymentOf → Type 0
 Sane p = (p.cents ≤ 9999999999) × (in_table p.code ≡ true)
 
 pub sane_payment : (p : PaymentOf) → payment_wrong p ≡ None → Sane p
+unfolding payment_wrong
 sane_payment p h =
-    let fields : Admitted payment_row (payment_values p) = (round_trip payment_row payment_lawful).judged (start 0) (payment_values p) (none_first _ _ h).0 in
+    let fields = each_admitted payment_form payment_lawful p h in
     let code = unless_false (ltb p.code 100) (whole TooWide) (unless (in_table p.code) NoSuchValue) fields.1.1.1.1.0 in
     let cents = unless_false (ltb p.cents (10 ^ 10)) (whole TooWide) (unless (leb 1 p.cents) Empty) fields.1.1.1.1.1.0 in
     (omega (arith, ltb-true p.cents (10 ^ 10) cents.0), unless_none (in_table p.code) NoSuchValue code.1)
@@ -52,10 +51,8 @@ pub record Sofar (R : Rules) (file : List ℕ) (line : ℕ) (rest : List ℕ) (t
   pub sane : AllByRecursion Sane payments
 
 module _ (R : Rules) (file : List ℕ) where
-  pub start_refused : (f : Fault) → Err f ≡ opening R file → Err f ≡ map_ok summed (read_of R file)
-  start_refused f h = ap (map_ok summed) (went_wrong (opening R file) (details R 999999 2 []) f h)
-
   pub started : (rest : List ℕ) (t : TallyOf) → Ok rest ≡ opening R file → t ≡ tallied [] → Sofar R file 2 rest t
+  unfolding read_of
   started rest t h e = record {
     payments = [];
     reading = went_well (opening R file) (details R 999999 2 []) rest h;
@@ -94,26 +91,26 @@ module _ (R : Rules) (file : List ℕ) (line : ℕ) (rest : List ℕ) (t : Tally
   reads : read_of R file ≡ at_line R line rest s.payments step.0
   reads = s.reading ∙ step.1
 
-  pub line_refused : (f : Fault) → Err f ≡ answered (line_fault line rest) (cut rest) → Err f ≡ map_ok summed (read_of R file)
+  pub line_refused : (f : Fault) → Err f ≡ answered (line_fault line rest) (cut line rest) → Err f ≡ map_ok summed (read_of R file)
   line_refused f h = ap (map_ok summed) (no_line R line rest s.payments step.0 f (stopped _ _ f h) ∙ sym reads)
 
-  module _ (cols after : List ℕ) (h : Ok (cols, after) ≡ answered (line_fault line rest) (cut rest)) where
+  module _ (n : ℕ) (cols after : List ℕ) (h : Ok ((n, cols), after) ≡ answered (line_fault line rest) (cut line rest)) where
     whole_line : line_fault line rest ≡ None
-    whole_line = no_line_fault line rest cols after h
+    whole_line = no_line_fault line rest n cols after h
 
-    tagged_so : (t : Result Tag Fault) → t ≡ tagged line (get_or cols 0 0) → t ≡ tagged line (get_or rest 0 0)
-    tagged_so t k = k ∙ ap (tagged line) (first_byte line rest cols after h)
+    tagged_so : (t : Result Tag Fault) → t ≡ tagged n (get_or cols 0 0) → t ≡ tagged line (get_or rest 0 0)
+    tagged_so t k = k ∙ (λ i. tagged (number_is line rest n cols after h i) (first_byte line rest n cols after h i))
 
-    pub tag_refused : (f : Fault) → Err f ≡ tagged line (get_or cols 0 0) → Err f ≡ map_ok summed (read_of R file)
+    pub tag_refused : (f : Fault) → Err f ≡ tagged n (get_or cols 0 0) → Err f ≡ map_ok summed (read_of R file)
     tag_refused f k = ap (map_ok summed) (tag_here R line rest s.payments step.0 (Err f) whole_line (tagged_so (Err f) k) ∙ sym reads)
 
-    pub at_trailer : Ok IsTrailer ≡ tagged line (get_or cols 0 0) → tally_closing R line t cols after ≡ map_ok summed (read_of R file)
+    pub at_trailer : Ok IsTrailer ≡ tagged n (get_or cols 0 0) → tally_closing R n t cols after ≡ map_ok summed (read_of R file)
     at_trailer k =
-        (λ i. tally_closing R line (s.tally i) (columns_are line rest cols after h i) (after_is line rest cols after h i))
+        (λ i. tally_closing R (number_is line rest n cols after h i) (s.tally i) (columns_are line rest n cols after h i) (after_is line rest n cols after h i))
         ∙ closing_tallied R line s.payments rest (All-weaker Sane _ (λ p x. x.1) s.payments s.sane)
         ∙ ap (map_ok summed) (tag_here R line rest s.payments step.0 (Ok IsTrailer) whole_line (tagged_so (Ok IsTrailer) k) ∙ sym reads)
 
-    module _ (k : Ok Detail ≡ tagged line (get_or cols 0 0)) where
+    module _ (k : Ok Detail ≡ tagged n (get_or cols 0 0)) where
       -- the line after the last that a detail may stand on
       pub too_many : 1000001 ≤ line → Err (fault_at TooManyDetails line 1) ≡ map_ok summed (read_of R file)
       too_many past_most =
@@ -134,14 +131,14 @@ module _ (R : Rules) (file : List ℕ) (line : ℕ) (rest : List ℕ) (t : Tally
         abbrev bs : List ℕ
         bs = take 120 rest
 
-        pub detail_refused : (f : Fault) → Err f ≡ agreed R line cols → Err f ≡ map_ok summed (read_of R file)
+        pub detail_refused : (f : Fault) → Err f ≡ agreed R n cols → Err f ≡ map_ok summed (read_of R file)
         detail_refused f m =
-            let here = subst (λ xs. ◌≡◌ {A = Result PaymentOf Fault} (Err f) (agreed R line xs)) (columns_are line rest cols after h) m in
+            let here = m ∙ (λ i. agreed R (number_is line rest n cols after h i) (columns_are line rest n cols after h i)) in
             ap (map_ok summed) (went_wrong (agreed R line bs) next f here ∙ sym on)
 
-        module _ (p : PaymentOf) (m : Ok p ≡ agreed R line cols) where
+        module _ (p : PaymentOf) (m : Ok p ≡ agreed R n cols) where
           here : ◌≡◌ {A = Result PaymentOf Fault} (Ok p) (agreed R line bs)
-          here = subst (λ xs. ◌≡◌ {A = Result PaymentOf Fault} (Ok p) (agreed R line xs)) (columns_are line rest cols after h) m
+          here = m ∙ (λ i. agreed R (number_is line rest n cols after h i) (columns_are line rest n cols after h i))
 
           goes_on : read_of R file ≡ next p
           goes_on = on ∙ went_well (agreed R line bs) next p here
@@ -157,7 +154,7 @@ module _ (R : Rules) (file : List ℕ) (line : ℕ) (rest : List ℕ) (t : Tally
             payments = s.payments ++ (p ∷ []);
             reading =
                 let left : 1000000 - line ≡ 1000001 - (line + 1) = omega arith in
-                goes_on ∙ (λ i. details R (left i) (line + 1) (s.payments ++ (p ∷ [])) (sym (after_is line rest cols after h) i));
+                goes_on ∙ (λ i. details R (left i) (line + 1) (s.payments ++ (p ∷ [])) (sym (after_is line rest n cols after h) i));
             tally =
                 e ∙ ap (λ t. with_payment t p) s.tally ∙ tallied_more s.payments p (omega (arith, s.count)) (All-weaker Sane _ (λ q x. x.0) s.payments s.sane) sane_here.0;
             count = omega (arith, length_push s.payments p, s.count);

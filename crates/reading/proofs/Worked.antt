@@ -1,8 +1,12 @@
--- The worked cases are computed.
+-- The worked cases compute.
 use Rattle.std.proofs.Common.{refl}
+use Rattle.headers.specs.Headers.{header_fault, header_value}
+use Rattle.payments.specs.Payments.{payment_fault, payment_value}
+use Rattle.reading.specs.Reading.{read_of}
 use Rattle.reading.specs.Worked.{Worked}
 
 pub worked : Worked
+unfolding header_fault header_value payment_fault payment_value read_of
 worked = record {
   leap_day = refl;
   leap_date = refl;
@@ -14,6 +18,6 @@ worked = record {
   one_cent_is = refl;
   tax_unmarked = (refl, refl, refl);
   tax_marked = refl;
-  empty_file = λ R. (refl, refl, refl);
-  one_byte_short = λ R. (refl, refl, refl);
+  empty_file = λ _. (refl, refl, refl);
+  one_byte_short = λ _. (refl, refl, refl);
 }

@@ -94,7 +94,7 @@ details R (suc left) line ps rest =
     (closing R line ps rest))
 
 -- the payments of a file, or its first fault
-abbrev pub read_of : Rules → List ℕ → Result (List PaymentOf) Fault
+unfoldable pub read_of : Rules → List ℕ → Result (List PaymentOf) Fault
 read_of R bytes = and_then (opening R bytes) (details R 999999 2 [])
 
 -- a summary by its values

@@ -1,4 +1,4 @@
-// One record of a file, by its line.
+//! One record of a file, by its line.
 ghost use Rattle.std.specs.Prelude.{◌≡◌};
 ghost use Rattle.kinds.specs.Kinds.{map_ok};
 ghost use Rattle.reading.specs.Records.{record_of};
@@ -8,7 +8,7 @@ ghost use Rattle.reading.specs.Reading.{rest_at, first_at, later_at, record_at};
 use crate::records::Record;
 use faults::Fault;
 use headers::Header;
-use lines::{Tag, cut_line, expect_header, expect_later};
+use lines::{Line, Tag, cut_line};
 use payments::Payment;
 use trailers::Trailer;
 
@@ -16,51 +16,47 @@ use trailers::Trailer;
 fn rest_at(file: &[u8], line: usize) -> &[u8]
     ensures { result.now ≡ rest_at file.now line }
 {
-    let end = file.len();
-    if line == 0 {
-        return &file[end..];
-    }
-    if line - 1 > end / 122 {
-        return &file[end..];
-    }
-    let start = 122 * (line - 1);
-    &file[start..]
+    line.checked_sub(1)
+        .and_then(|before| before.checked_mul(122))
+        .and_then(|start| file.get(start..))
+        .unwrap_or(b"")
 }
 
-// What the columns of line 1 say.
-fn first_record(columns: &[u8; 120], line: usize) -> Result<Record, Fault>
-    ensures { map_ok record_of result ≡ first_at line columns.now }
+// What line 1 says.
+fn first_record(line: Line) -> Result<Record, Fault>
+    ensures { map_ok record_of result ≡ first_at line.entry.number line.entry.columns.now }
 {
-    expect_header(columns, line)?;
-    let header = Header::read(columns, line)?;
+    line.expect_header()?;
+    let header = Header::read(line)?;
     Ok(Record::Header(header))
 }
 
-// What the columns of a later line say.
-fn later_record(columns: &[u8; 120], line: usize) -> Result<Record, Fault>
-    ensures { map_ok record_of result ≡ later_at line columns.now }
+// What a later line says.
+fn later_record(line: Line) -> Result<Record, Fault>
+    ensures { map_ok record_of result ≡ later_at line.entry.number line.entry.columns.now }
 {
-    match expect_later(columns, line)? {
+    match line.expect_later()? {
         Tag::Detail => {
-            let payment = Payment::read(columns, line)?;
+            let payment = Payment::read(line)?;
             Ok(Record::Detail(payment))
         }
         Tag::Trailer => {
-            let trailer = Trailer::read(columns, line)?;
+            let trailer = Trailer::read(line)?;
             Ok(Record::Trailer(trailer))
         }
     }
 }
 
-// What a line of a file says, or why it says nothing. Line 0 is a line with no bytes.
+/// What a line of a file says, or why it says nothing. Line 0 is a line with no bytes.
+#[tactic(auto, using(crate::proofs::Worked::worked))]
 pub fn record(file: &[u8], line: usize) -> Result<Record, Fault>
     ensures answer { map_ok record_of result ≡ record_at line (rest_at file.now line) }
     ensures worked { Worked }
 {
     let (columns, _) = cut_line(rest_at(file, line), line)?;
     if line == 1 {
-        first_record(columns, line)
+        first_record(columns)
     } else {
-        later_record(columns, line)
+        later_record(columns)
     }
 }

@@ -1,4 +1,4 @@
-// How answers are printed.
+//! How answers and records are printed.
 
 #![tactic(auto)]
 

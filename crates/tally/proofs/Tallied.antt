@@ -1,13 +1,13 @@
 -- A tally that payments were added to one by one is the tally of those payments, and its sums are theirs.
-use Rattle.std.proofs.Common.{◌≡◌, ℕ, ◌+◌, ◌*◌, ◌^◌, ◌<◌, ◌≤◌, Bool, true, false, cond, eqb, List, [], ◌∷◌, ◌++◌, map, length, drop, Some, sum_by, count_by, sym, refl, ◌∙◌, zero-add, arith}
-use Rattle.std.specs.List.{AllByRecursion}
+use Rattle.std.proofs.Common.{◌≡◌, ℕ, ◌+◌, ◌*◌, ◌^◌, ◌<◌, ◌≤◌, Bool, true, cond, eqb, List, [], ◌∷◌, ◌++◌, map, length, drop, Some, None, Option, sum_by, count_by, sym, refl, ◌∙◌, zero-add, arith}
+use Rattle.std.specs.List.{AllByRecursion, last_or}
 use Rattle.std.proofs.ByRecursion.{All-weaker, sum_by_le}
 use Rattle.std.proofs.lemmas.List.Sums.{sum_by-cons, sum_by_push, count_by-le-length}
 use Rattle.std.proofs.lemmas.Bool.Decides.{nat_tests}
 use Rattle.fields.specs.Numbers.{in_table}
 use Rattle.payments.specs.Payments.{PaymentOf}
 use Rattle.tally.specs.declared.Row.{Row}
-use Rattle.tally.specs.Tallies.{the_codes, row_for, place_of, row_added, one_more, shown_last, last_payment, tallied, with_payment, is_debit, credits, debits, rows_credit, rows_debit, rows_count}
+use Rattle.tally.specs.Tallies.{the_codes, row_for, place_of, row_added, one_more, LastOf, shown_last, tallied, with_payment, is_debit, credits, debits, rows_credit, rows_debit, rows_count}
 
 -- a code has one row or none, so that row is all that a payment changes
 one_row : (rows : ℕ → Row) (n x : ℕ) → map (λ code. cond (eqb n code) (one_more (rows code) x) (rows code)) the_codes ≡ row_added (map rows the_codes) (place_of n) x
@@ -15,13 +15,11 @@ one_row rows n x = grind (arith, nat_tests)
 
 -- below the cap a row grows by what is added
 grown : (mine : Bool) (m s x : ℕ) → m + 1 < 2 ^ 64 → s + x < 2 ^ 64 → ◌≡◌ {A = Row} (record { count = m + cond mine 1 0; cents = s + cond mine x 0 }) (cond mine (one_more (record { count = m; cents = s }) x) (record { count = m; cents = s }))
-grown true m s x few small = grind arith
-grown false m s x few small = grind arith
+grown mine m s x few small = grind arith
 
-last_push : (ps : List PaymentOf) (p : PaymentOf) → last_payment (ps ++ p ∷ []) ≡ Some (shown_last p)
-last_push [] p = refl
-last_push (q ∷ []) p = refl
-last_push (q ∷ r ∷ ps) p = last_push (r ∷ ps) p
+last_push : (before : Option LastOf) (ps : List PaymentOf) (p : PaymentOf) → last_or before (map shown_last (ps ++ p ∷ [])) ≡ Some (shown_last p)
+last_push before [] p = refl
+last_push before (q ∷ ps) p = last_push (Some (shown_last q)) ps p
 
 -- the cents of a payment, by whether they count
 abbrev cents_of : ℕ → PaymentOf → ℕ
@@ -48,7 +46,7 @@ module _ (ps : List PaymentOf) (p : PaymentOf) (few : length ps ≤ 999999) (sma
   pub tallied_more : with_payment (tallied ps) p ≡ tallied (ps ++ p ∷ [])
   tallied_more =
       let rows = (λ i. map (λ code. row_push code i) the_codes) ∙ one_row (row_for ps) p.code p.cents in
-      sym (λ i. record { rows = rows i; last = last_push ps p i })
+      sym (λ i. record { rows = rows i; last = last_push None ps p i })
 
 -- sums of sums, in either order
 module _ {X : Type 0} where

@@ -1,5 +1,7 @@
 -- What payments come to: a row for each code, the last payment, and the totals of each side.
 use Rattle.std.specs.Prelude.{ℕ, ◌+◌, ◌-◌, ◌^◌, min, max, Bool, cond, List, [], ◌∷◌, map, length, take, drop, Some, None, sum_by, count_by, Option, ◌==◌, nat_eq, slice_index_or, slice_set}
+use Rattle.std.specs.List.{last_or}
+use Rattle.std.specs.Option.{option_map}
 use Rattle.fields.specs.Numbers.{in_table}
 use Rattle.trailers.specs.declared.Trailer.{Trailer}
 use Rattle.payments.specs.Payments.{PaymentOf}
@@ -21,12 +23,11 @@ pub record TallyOf : Type 0 where
   pub rows : List Row
   pub last : Option LastOf
 
-abbrev pub last_of : Option Last → Option LastOf
-last_of None = None
-last_of (Some l) = Some (record { bsb = l.bsb; account = l.account.now; code = l.code })
+abbrev pub last_of : Last → LastOf
+last_of l = record { bsb = l.bsb; account = l.account.now; code = l.code }
 
 abbrev pub tally_of : Tally → TallyOf
-tally_of t = record { rows = t.rows; last = last_of t.last }
+tally_of t = record { rows = t.rows; last = option_map last_of t.last }
 
 -- the nine codes, in the order of their rows
 abbrev pub the_codes : List ℕ
@@ -43,9 +44,7 @@ abbrev pub shown_last : PaymentOf → LastOf
 shown_last p = record { bsb = p.bsb; account = p.account; code = p.code }
 
 abbrev pub last_payment : List PaymentOf → Option LastOf
-last_payment [] = None
-last_payment (p ∷ []) = Some (shown_last p)
-last_payment (p ∷ q ∷ ps) = last_payment (q ∷ ps)
+last_payment ps = last_or None (map shown_last ps)
 
 -- the tally of some payments
 abbrev pub tallied : List PaymentOf → TallyOf

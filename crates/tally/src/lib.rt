@@ -1,36 +1,48 @@
-// What payments come to, code by code: how a tally is made, grows and is summed.
+//! What payments come to, code by code: how a tally is made, grows and is summed.
 
 #![tactic(auto)]
 
 ghost use Rattle.std.specs.Prelude.{◌≡◌, []};
-ghost use Rattle.tally.specs.Tallies.{one_more, place_of, rows_cents, rows_count, rows_credit, rows_debit, side_count, tallied, tally_of, with_payment};
+ghost use Rattle.tally.specs.Tallies.{last_of, one_more, place_of, rows_cents, rows_count, rows_credit, rows_debit, shown_last, side_count, tallied, tally_of, with_payment};
 ghost use Rattle.payments.specs.Payments.{payment_of};
 
 use payments::Payment;
 
-// How many payments have a code, and their cents.
-#[derive(Clone, Copy)]
+/// How many payments have a code, and their cents.
+#[derive(Clone, Copy, PartialEq, Eq, Debug)]
 pub struct Row {
     pub count: u64,
     pub cents: u64,
 }
 
-// The last payment, by what a house is shown of it.
-#[derive(Clone, Copy)]
+/// The last payment, by what a house is shown of it.
+#[derive(Clone, Copy, PartialEq, Eq, Debug)]
 pub struct Last<'a> {
     pub bsb: u64,
     pub account: &'a [u8],
     pub code: u64,
 }
 
-// A row for each of the codes 13 and 50 to 57, and the last payment.
-#[derive(Clone, Copy)]
+impl<'a> From<&Payment<'a>> for Last<'a> {
+    ghost from_gives = { λ payment last. last_of last ≡ shown_last (payment_of payment.now) };
+
+    fn from(payment: &Payment<'a>) -> Last<'a> {
+        Last {
+            bsb: payment.bsb,
+            account: payment.account,
+            code: payment.code,
+        }
+    }
+}
+
+/// A row for each of the codes 13 and 50 to 57, and the last payment.
+#[derive(Clone, Copy, PartialEq, Eq, Debug)]
 pub struct Tally<'a> {
     pub rows: [Row; 9],
     pub last: Option<Last<'a>>,
 }
 
-// The place of a code's row, where the table has the code.
+// The place of a code's row, where the table has the code. A tally keeps its nine rows in place, in an array with no heap, so a code has a place and not a key.
 fn place_of(code: u64) -> Option<usize>
     ensures { result ≡ place_of code }
 {
@@ -42,31 +54,31 @@ fn place_of(code: u64) -> Option<usize>
 }
 
 impl Row {
-    // With one payment more.
-    fn with(self, cents: u64) -> Row
-        ensures { result ≡ one_more self cents }
+    // Counts one payment more.
+    fn add(&mut self, cents: u64)
+        ensures { self.new ≡ one_more self.old cents }
     {
-        Row {
-            count: self.count.saturating_add(1),
-            cents: self.cents.saturating_add(cents),
-        }
+        self.count = self.count.saturating_add(1);
+        self.cents = self.cents.saturating_add(cents);
     }
 }
 
-// The counts of some rows, and their cents. Neither sum wraps, since a slice has fewer than 2^64 rows.
-fn sums(rows: &[Row]) -> (u128, u128)
-    ensures { (result.0 ≡ rows_count rows.now) × (result.1 ≡ rows_cents rows.now) }
+// How many payments some rows count. A sum does not wrap, since a slice has fewer than 2^64 rows.
+fn count_of(rows: &[Row]) -> u128
+    ensures { result ≡ rows_count rows.now }
 {
-    let mut count = 0;
-    let mut cents = 0;
-    for row in rows {
-        count += row.count as u128;
-        cents += row.cents as u128;
-    }
-    (count, cents)
+    rows.iter().map(|row| u128::from(row.count)).sum()
+}
+
+// The cents of some rows.
+fn cents_of(rows: &[Row]) -> u128
+    ensures { result ≡ rows_cents rows.now }
+{
+    rows.iter().map(|row| u128::from(row.cents)).sum()
 }
 
 impl<'a> Tally<'a> {
+    /// Of no payments.
     pub fn new() -> Tally<'a>
         ensures { tally_of result ≡ tallied [] }
     {
@@ -76,52 +88,45 @@ impl<'a> Tally<'a> {
         }
     }
 
-    // With one payment more.
+    /// With one payment more.
     pub fn add(&mut self, payment: &Payment<'a>)
         ensures { tally_of self.new ≡ with_payment (tally_of self.old) (payment_of payment.now) }
     {
         if let Some(place) = place_of(payment.code) {
-            self.rows[place] = self.rows[place].with(payment.cents);
+            self.rows[place].add(payment.cents);
         }
-        self.last = Some(Last {
-            bsb: payment.bsb,
-            account: payment.account,
-            code: payment.code,
-        });
+        self.last = Some(Last::from(payment));
     }
 
-    // The cents of the credits.
+    /// The cents of the credits.
     pub fn credit(&self) -> u128
         ensures { result ≡ rows_credit self.now.rows }
     {
-        // A slice's rest is all that is left of it; an array's is said by a number.
-        let rows: &[Row] = &self.rows;
-        sums(&rows[1..]).1
+        cents_of(&self.rows[1..])
     }
 
-    // The cents of the debits.
+    /// The cents of the debits.
     pub fn debit(&self) -> u128
         ensures { result ≡ rows_debit self.now.rows }
     {
-        sums(&self.rows[..1]).1
+        cents_of(&self.rows[..1])
     }
 
-    // How many payments there are.
+    /// How many payments there are.
     pub fn count(&self) -> u128
         ensures { result ≡ rows_count self.now.rows }
     {
-        sums(&self.rows).0
+        count_of(&self.rows)
     }
 
-    // How many payments are on the side of a code.
+    /// How many payments are on the side of a code.
     pub fn side_count(&self, code: u64) -> u128
         ensures { result ≡ side_count self.now.rows code }
     {
-        let rows: &[Row] = &self.rows;
         if code == 13 {
-            sums(&rows[..1]).0
+            count_of(&self.rows[..1])
         } else {
-            sums(&rows[1..]).0
+            count_of(&self.rows[1..])
         }
     }
 }

@@ -1,44 +1,35 @@
-// The columns of a trailer.
+//! The columns of a trailer.
 use fields::fixed::Fixed;
-use fields::number::Number;
-use kinds::layout::{End, Then};
+use fields::number::{AtLeast, Number};
 
-// columns 21 to 120 of a trailer
-type TrailerEnd = Then<
-    Number<10, 0>,
-    Then<
-        Number<10, 0>,
-        Then<Number<10, 0>, Then<Fixed<24>, Then<Number<6, 0>, Then<Fixed<40>, End>>>>,
-    >,
->;
+// columns 51 to 120 of a trailer
+type TrailerEnd = (Fixed<24>, (Number<6, AtLeast<0>>, (Fixed<40>, ())));
 
-pub(crate) type TrailerLayout = Then<Fixed<20>, TrailerEnd>;
+const END: TrailerEnd = (
+    Fixed {
+        bytes: b"                        ",
+    },
+    (
+        Number { numbers: AtLeast },
+        (
+            Fixed {
+                bytes: b"                                        ",
+            },
+            (),
+        ),
+    ),
+);
 
-pub(crate) const TRAILER: TrailerLayout = Then(
+// a total in cents
+type Total = Number<10, AtLeast<0>>;
+
+const TOTAL: Total = Number { numbers: AtLeast };
+
+pub(crate) type TrailerLayout = (Fixed<20>, (Total, (Total, (Total, TrailerEnd))));
+
+pub(crate) const TRAILER: TrailerLayout = (
     Fixed {
         bytes: b"7999-999            ",
     },
-    Then(
-        Number {},
-        Then(
-            Number {},
-            Then(
-                Number {},
-                Then(
-                    Fixed {
-                        bytes: b"                        ",
-                    },
-                    Then(
-                        Number {},
-                        Then(
-                            Fixed {
-                                bytes: b"                                        ",
-                            },
-                            End,
-                        ),
-                    ),
-                ),
-            ),
-        ),
-    ),
+    (TOTAL, (TOTAL, (TOTAL, END))),
 );

@@ -1,8 +1,9 @@
-// The stored cases. Each is a line `case HOUSE`, then pieces, each a line `piece TIMES LENGTH`, that many bytes and a LF,
-// and at its end a line `records` with the numbers of the lines to look at.
+//! The stored cases. Each is a line `case HOUSE`, then pieces, each a line `piece TIMES LENGTH`, that many bytes and a LF,
+//! and at its end a line `records` with the numbers of the lines to look at.
 use anyhow::anyhow;
 use std::str::from_utf8;
 
+/// What is left of the stored cases, and the line that was read last.
 #[derive(Drop)]
 pub struct Cases<'a> {
     rest: &'a [u8],
@@ -19,26 +20,19 @@ impl<'a> Cases<'a> {
 
     // The next so many bytes, if there are as many.
     fn take(&mut self, length: usize) -> anyhow::Result<&'a [u8]> {
-        let rest = self.rest;
-        if length > rest.len() {
+        if length > self.rest.len() {
             return Err(anyhow!("a case ends early"));
         }
-        self.rest = &rest[length..];
-        Ok(&rest[0..length])
+        let (taken, rest) = self.rest.split_at(length);
+        self.rest = rest;
+        Ok(taken)
     }
 
     // Goes on to the next line.
     fn next_line(&mut self) -> anyhow::Result<()> {
-        let rest = self.rest;
-        let mut end = rest.len();
-        for i in 0..rest.len() {
-            if rest[i] == b'\n' {
-                end = i;
-                break;
-            }
-        }
-        self.line = self.take(end)?;
-        if end < rest.len() {
+        let end = self.rest.iter().position(|byte| *byte == b'\n');
+        self.line = self.take(end.unwrap_or(self.rest.len()))?;
+        if end.is_some() {
             self.take(1)?;
         }
         Ok(())
@@ -63,16 +57,16 @@ impl<'a> Cases<'a> {
             return Ok(None);
         }
         self.next_line()?;
-        let line = self.line;
-        if !line.starts_with(b"case ") {
-            return Err(anyhow!("a case does not begin with its house"));
+        match self.line.strip_prefix(b"case ") {
+            Some(house) => Ok(Some(house)),
+            None => Err(anyhow!("a case does not begin with its house")),
         }
-        Ok(Some(&line[5..]))
     }
 
     // Fills the vector with the case's file.
     pub(crate) fn file(&mut self, file: &mut Vec<u8>) -> anyhow::Result<()> {
         file.clear();
+        // Until a line is no piece: each time round takes one, so there are never so many.
         for _ in 0..u64::MAX {
             self.next_line()?;
             if !self.line.starts_with(b"piece ") {
@@ -90,17 +84,4 @@ impl<'a> Cases<'a> {
         }
         Ok(from_utf8(self.line)?)
     }
-}
-
-// The words of a line, which blanks set apart.
-pub(crate) fn split_words<'a>(line: &'a [u8], words: &mut Vec<&'a [u8]>) -> anyhow::Result<()> {
-    let mut start = 0;
-    for i in 0..line.len() {
-        if line[i] == b' ' {
-            words.push(&line[start..i])?;
-            start = i + 1;
-        }
-    }
-    words.push(&line[start..])?;
-    Ok(())
 }

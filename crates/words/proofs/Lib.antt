@@ -1,1 +1,2 @@
+mod Listing
 mod Said

@@ -1,1 +1,2 @@
+pub mod Houses
 pub mod Words

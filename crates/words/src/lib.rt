@@ -1,47 +1,74 @@
-// A house chosen by words, as on a command line.
+//! A house chosen by words, as on a command line.
 
 #![tactic(auto)]
 
-ghost use Rattle.std.specs.Prelude.{◌≡◌, [], ◌∷◌, map, is_ok, if◌then◌else◌};
+ghost use Rattle.std.specs.Prelude.{◌≡◌, [], ◌∷◌, map, is_ok, if◌then◌else◌, ◌==◌};
+ghost use Rattle.std.specs.List.{position};
 ghost use Rattle.std.specs.Option.{option_map};
-ghost use Rattle.book.specs.Books.{rows_of, room_of};
-ghost use Rattle.listed.specs.Listed.{bank_of};
-ghost use Rattle.words.specs.Words.{said_after, number_said, before_equals, bank_said, listing, with_said, house_of, settling, chosen};
+ghost use Rattle.listed.specs.Listed.{bank_of, banks_of};
+ghost use Rattle.words.specs.declared.Unmade.TheVariants.{Refused};
+ghost use Rattle.words.specs.Words.{said_after, number_said, before_equals, bank_said, listing, with_said, listing_all, listed_all, house_of, settling, chosen};
 
 use book::book::{Book, Row};
 use faults::Fault;
-use houses::bytes::same;
 use listed::banks::list_bank;
+use std::error::Error;
+use std::fmt;
 
-// A house and what it is made from, as the words say it.
-#[derive(Clone, Copy)]
-pub enum Choice<'w> {
+pub mod work;
+
+/// A house and what it is made from, as the words say it.
+#[derive(Clone, Copy, PartialEq, Eq, Debug)]
+pub enum Choice<'s, 'w> {
     Plain,
-    // the rest of the words are bank lines
-    Listed,
+    /// the words that are bank lines
+    Listed(&'s [&'w [u8]]),
+    /// the settling BSB and account
     Balanced(u64, &'w [u8]),
 }
 
-// Why there is no house.
-#[derive(Clone, Copy)]
+/// Why there is no house.
+#[derive(Clone, Copy, PartialEq, Eq, Debug)]
 pub enum Unmade {
-    // the words say none
+    /// the words say none
     Words,
-    // what it was to be made from is refused
+    /// what it was to be made from is refused
     Refused(Fault),
 }
+
+impl From<Fault> for Unmade {
+    ghost from_gives = { λ fault unmade. unmade ≡ Refused fault };
+
+    fn from(fault: Fault) -> Unmade {
+        Unmade::Refused(fault)
+    }
+}
+
+impl fmt::Display for Unmade {
+    fn fmt<W: fmt::Write>(&self, f: &mut fmt::Formatter<W>) -> fmt::Result {
+        match self {
+            Unmade::Words => f.write_str(
+                "say a house: plain, or listed 12=BQL 62=CBA .., or balanced 124001 234567890",
+            ),
+            Unmade::Refused(fault) => write!(f, "the house cannot be made: {fault}"),
+        }
+    }
+}
+
+impl Error for Unmade {}
 
 // The number with one digit more at its end, if the byte is a digit and the number fits.
 fn with_digit(n: u64, byte: u8) -> Option<u64>
     ensures { result ≡ said_after n (byte ∷ []) }
 {
     match byte {
-        b'0'..=b'9' => n.checked_mul(10)?.checked_add((byte - b'0') as u64),
+        b'0'..=b'9' => n.checked_mul(10)?.checked_add(u64::from(byte - b'0')),
         _ => None,
     }
 }
 
 // The number that digits write, if it fits.
+#[tactic(auto, using(crate::proofs::Said::read_out))]
 fn number(digits: &[u8]) -> Option<u64>
     ensures { result ≡ number_said digits.now }
 {
@@ -56,7 +83,7 @@ fn number(digits: &[u8]) -> Option<u64>
 }
 
 // What the balanced house is made from: a BSB and an account.
-fn settling<'w>(words: &[&'w [u8]]) -> Option<Choice<'w>>
+fn settling<'s, 'w>(words: &'s [&'w [u8]]) -> Option<Choice<'s, 'w>>
     ensures { option_map house_of result ≡ settling (map (λ x. x.now) words.now) }
 {
     let [bsb, account] = words else {
@@ -65,63 +92,66 @@ fn settling<'w>(words: &[&'w [u8]]) -> Option<Choice<'w>>
     Some(Choice::Balanced(number(bsb)?, account))
 }
 
-// The house that words choose: `plain`, `listed 12=BQL 62=CBA ..` or `balanced 124001 234567890`.
-pub fn choose<'w>(words: &[&'w [u8]]) -> Option<Choice<'w>>
+/// The house that words choose: `plain`, `listed 12=BQL 62=CBA ..` or `balanced 124001 234567890`.
+pub fn choose<'s, 'w>(words: &'s [&'w [u8]]) -> Option<Choice<'s, 'w>>
     ensures { option_map house_of result ≡ chosen (map (λ x. x.now) words.now) }
 {
     let [name, rest @ ..] = words else {
         return None;
     };
-    if same(name, b"plain") && rest.is_empty() {
+    // `==` and no `match` on byte strings, which leaves its clause open.
+    let name: &[u8] = name;
+    if name == b"plain".as_slice() && rest.is_empty() {
         return Some(Choice::Plain);
     }
-    if same(name, b"listed") {
-        return Some(Choice::Listed);
+    if name == b"listed".as_slice() {
+        return Some(Choice::Listed(rest));
     }
-    if same(name, b"balanced") {
+    if name == b"balanced".as_slice() {
         return settling(rest);
     }
     None
 }
 
-// Where the first `=` of a word stands, or the word's end where there is none.
-fn equals_sign(word: &[u8]) -> usize
-    ensures { result ≡ before_equals word.now }
+// Where the first `=` of a word stands.
+fn equals_sign(word: &[u8]) -> Option<usize>
+    ensures { result ≡ position (λ b. b == 61) word.now }
 {
-    for i in 0..word.len() {
-        if word[i] == b'=' {
-            return i;
-        }
-    }
-    word.len()
+    word.iter().position(|byte| *byte == b'=')
 }
 
 // The bank that a word says, as 12=BQL.
 fn bank_said<'w>(word: &'w [u8]) -> Option<Row<&'w [u8]>>
     ensures { option_map bank_of result ≡ bank_said word.now }
 {
-    let end = equals_sign(word);
-    if end >= word.len() {
-        return None;
-    }
-    let number = number(&word[0..end])?;
+    let end = equals_sign(word)?;
+    let number = number(&word[..end])?;
     Some(Row {
         number,
         value: &word[end + 1..],
     })
 }
 
-// Puts the bank that a word says on the list. A word that is refused changes nothing.
+/// Puts the bank that a word says on the list. A word that is refused changes nothing.
 pub fn list_word<'w>(list: &mut Book<'_, &'w [u8]>, word: &'w [u8]) -> Result<(), Unmade>
-    ensures answer { result ≡ listing (rows_of list.old) (room_of list.old) (bank_said word.now) }
-    ensures after { map bank_of (rows_of list.new) ≡ (if is_ok result then with_said (map bank_of (rows_of list.old)) (bank_said word.now) else map bank_of (rows_of list.old)) }
-    ensures room { room_of list.new ≡ room_of list.old }
+    ensures answer { result ≡ listing list.old (bank_said word.now) }
+    ensures after { banks_of list.new ≡ (if is_ok result then with_said (banks_of list.old) (bank_said word.now) else banks_of list.old) }
+    ensures room { list.new.room ≡ list.old.room }
 {
-    let Some(bank) = bank_said(word) else {
-        return Err(Unmade::Words);
-    };
-    match list_bank(list, bank.number, bank.value) {
-        Ok(()) => Ok(()),
-        Err(fault) => Err(Unmade::Refused(fault)),
+    let bank = bank_said(word).ok_or(Unmade::Words)?;
+    list_bank(list, bank)?;
+    Ok(())
+}
+
+/// Puts the bank that each word says on the list, up to the first word that is refused.
+#[tactic(auto, using(crate::proofs::Listing::listing_next, crate::proofs::Listing::listed_next))]
+pub fn list_words<'w>(list: &mut Book<'_, &'w [u8]>, words: &[&'w [u8]]) -> Result<(), Unmade>
+    ensures answer { result ≡ listing_all list.old.room (banks_of list.old) (map (λ x. x.now) words.now) }
+    ensures after { banks_of list.new ≡ listed_all list.old.room (banks_of list.old) (map (λ x. x.now) words.now) }
+    ensures room { list.new.room ≡ list.old.room }
+{
+    for word in words {
+        list_word(list, word)?;
     }
+    Ok(())
 }

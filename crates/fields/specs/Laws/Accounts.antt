@@ -7,7 +7,7 @@ use Rattle.std.proofs.lemmas.List.{length-append, length-replicate, length-drop,
 use Rattle.std.proofs.lemmas.List.Sums.{prefix_len-le-length}
 use Rattle.std.proofs.lemmas.Bool.{cases_Bool, eqb-true, ltb-false, le-ltb, cond-true, cond-false}
 use Rattle.kinds.specs.Kinds.{Lawful, fault}
-use Rattle.kinds.specs.Admitted.{Passes, all_pass, passed_all, all_replicate, unless_true, unless_false}
+use Rattle.kinds.specs.Admitted.{Within, within_cond, within_refused, Passes, all_pass, passed_all, all_replicate, unless_true, unless_false}
 use Rattle.fields.specs.Texts.{account_kind, is_blank, account_byte, positive, first_blank, account_flaw, indent}
 
 -- no blank is found where there is none, wherever the account stands
@@ -89,8 +89,21 @@ module _ (bs : List ℕ) (wide : length bs ≡ 9) where
       let blanks : 9 - length (drop (indent bs) bs) ≡ indent bs = omega (arith, value_length, wide, prefix_len-le-length is_blank bs) in
       ap (λ n. replicate n 32 ++ drop (indent bs) bs) blanks ∙ refilled bs
 
+-- what is wrong with an account lies within its field
+within_blank : (i : ℕ) (v : List ℕ) → i + length v ≤ 9 → Within 9 (first_blank i v)
+within_blank i [] h = tt
+within_blank i (b ∷ bs) h = within_cond 9 (is_blank b) _ _ (omega arith) (within_blank (i + 1) bs (omega arith))
+
+within_flaw : (i : ℕ) (v : List ℕ) → i + length v ≤ 9 → Within 9 (account_flaw i v)
+within_flaw i v h = within_cond 9 (positive v) _ _ (within_blank i v h) (omega arith)
+
 pub account_lawful : Lawful account_kind
 account_lawful = record {
+  flaw_within = λ bs w. within_flaw (indent bs) (drop (indent bs) bs) (omega (arith, value_length bs w, prefix_len-le-length is_blank bs));
+  wrong_within = λ v. elim (cases_Bool (nat_lt 9 (length v))) [
+    | inl e ↦ rw e (omega arith)
+    | inr e ↦ let fits = ltb-false 9 (length v) e in rw e (within_refused 9 (λ _ b. account_byte b) (9 - length v) v _ (omega arith) (within_flaw (9 - length v) v (omega arith)))
+  ];
   spelled_width = λ v h. let F = form_from v h in simp (length-append, length-replicate) (omega (arith, F.fits));
   spelled_proper = λ v h. filled_proper v (form_from v h);
   read_back = λ v h. found v (form_from v h);

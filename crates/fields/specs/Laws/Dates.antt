@@ -1,5 +1,5 @@
 -- The laws of the kinds that join several numbers: the BSB and the date.
-use Rattle.std.specs.Prelude.{◌≡◌, ℕ, ◌+◌, ◌-◌, ◌*◌, ◌/◌, ◌%◌, ◌<◌, ◌≤◌, Bool, true, cond, leb, List, ◌∷◌, ◌++◌, length, take, drop, None, ◌==◌, ◌≢◌, nat_le, slice_index_or, refl}
+use Rattle.std.specs.Prelude.{◌≡◌, ℕ, ◌+◌, ◌-◌, ◌*◌, ◌/◌, ◌%◌, ◌<◌, ◌≤◌, Bool, true, cond, leb, List, ◌∷◌, ◌++◌, length, take, drop, None, ◌==◌, ◌≢◌, ◌&&◌, nat_lt, nat_le, slice_index_or, refl}
 use Rattle.std.proofs.Common.{sym, ap, subst, ◌∙◌, arith, length-take, length-drop, take-append-drop}
 use Rattle.std.proofs.lemmas.List.{drop_more, drop-drop, take_all}
 use Rattle.std.proofs.lemmas.Bool.{and_from, and_parts, le-leb, leb-true, lt-ltb, ltb-true, eqb-true, ne_eqb, cond_both, cond-true}
@@ -7,8 +7,8 @@ use Rattle.fields.specs.declared.date.Date.{Date}
 use Rattle.faults.specs.declared.Cause.TheVariants.{TooWide, NoSuchValue}
 use Rattle.kinds.specs.Kinds.{Lawful, AllFrom, fault}
 use Rattle.fields.specs.Numbers.{unless, digit, number_of, digits, bsb_kind, date_kind, date_of, a_day, days_in, leap, AllDigits}
-use Rattle.kinds.specs.Admitted.{all_admitted, none_refused, all_weaker, all_at, all_part, unless_false}
-use Rattle.fields.specs.Laws.Numbers.{digits_read, digit_proper, digits_back, number_less, unless_none}
+use Rattle.kinds.specs.Admitted.{all_admitted, none_refused, all_weaker, all_at, all_part, unless_false, within_cond}
+use Rattle.fields.specs.Laws.Numbers.{digits_read, digit_proper, digits_back, number_less, unless_none, unless_within}
 
 -- the digits of a part that admits nothing else
 part_digits : (p : ℕ → ℕ → Bool) (n k : ℕ) (bs : List ℕ) → n + k ≤ length bs → ((j b : ℕ) → j < k → p (n + j) b ≡ true → digit b ≡ true) → AllFrom p 0 bs → AllDigits (take k (drop n bs))
@@ -64,6 +64,8 @@ pub bsb_lawful : Lawful bsb_kind
 bsb_lawful =
     let fits : (n : ℕ) → bsb_kind.wrong n ≡ None → n < 1000000 = λ n h. ltb-true n 1000000 (unless_none _ TooWide h) in
     record {
+      flaw_within = λ bs long. tt;
+      wrong_within = λ n. unless_within 7 (nat_lt n 1000000) TooWide;
       spelled_width = λ n h. refl;
       spelled_proper = λ n h. all_admitted bsb_kind.admits 0 (bsb_kind.spell n) None (digit_proper (n / 1000 / 10 / 10), (digit_proper (n / 1000 / 10), (digit_proper (n / 1000), (refl, (digit_proper (n % 1000 / 10 / 10), (digit_proper (n % 1000 / 10), (digit_proper (n % 1000), tt)))))));
       read_back = λ n h. let less = fits n h in (λ i. digits_read 3 (n / 1000) (omega arith) i * 1000 + digits_read 3 (n % 1000) (omega arith) i) ∙ omega arith;
@@ -126,6 +128,8 @@ date_lawful =
     let year : 2000 + (d.year - 2000) ≡ d.year = omega arith in
     (λ i. record { day = digits_read 2 d.day (omega arith) i; month = digits_read 2 d.month (omega arith) i; year = (ap (λ y. 2000 + y) (digits_read 2 (d.year - 2000) (omega arith)) ∙ year) i }) in
     record {
+      flaw_within = λ bs long. unless_within 6 _ NoSuchValue;
+      wrong_within = λ d. within_cond 6 (nat_le 2000 d.year && nat_le d.year 2099) _ _ (unless_within 6 (a_day d) NoSuchValue) (omega arith);
       spelled_width = λ d h. refl;
       spelled_proper = λ d h.
           all_admitted date_kind.admits 0 (date_kind.spell d) _ (digit_proper (d.day / 10), (digit_proper d.day, (digit_proper (d.month / 10), (digit_proper d.month, (digit_proper ((d.year - 2000) / 10), (digit_proper (d.year - 2000), tt))))))

@@ -9,6 +9,8 @@ use Rattle.kinds.specs.Admitted.{all_admitted, none_refused, all_at, all_from}
 
 pub fixed_lawful : (given : List ℕ) → Lawful (fixed_kind given)
 fixed_lawful given = record {
+  flaw_within = λ bs w. tt;
+  wrong_within = λ v. tt;
   spelled_width = λ v h. refl;
   spelled_proper = λ v h. all_admitted (fixed_kind given).admits 0 given None (all_from _ 0 given (λ j less. rw zero-add (and_from _ _ (lt-ltb _ _ less) (eq-eqb _ _ refl))));
   read_back = λ v h. refl;

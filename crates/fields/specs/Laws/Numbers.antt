@@ -1,5 +1,5 @@
 -- Digits and the numbers that they write, and the laws of the kinds made of them.
-use Rattle.std.specs.Prelude.{◌≡◌, ℕ, zero, suc, ◌+◌, ◌-◌, ◌*◌, ◌/◌, ◌%◌, ◌^◌, ◌<◌, ◌≤◌, Bool, true, false, List, [], ◌∷◌, ◌++◌, length, take, drop, None, nat_le, slice_index, slice_index_or, slice_set, refl}
+use Rattle.std.specs.Prelude.{◌≡◌, ℕ, zero, suc, ◌+◌, ◌-◌, ◌*◌, ◌/◌, ◌%◌, ◌^◌, ◌<◌, ◌≤◌, Bool, true, false, List, [], ◌∷◌, ◌++◌, length, take, drop, None, nat_le, slice_index, slice_index_or, slice_set, refl, Some, nat_lt}
 use Rattle.std.proofs.Common.{sym, ap, subst, ◌∙◌, pow-suc, add-one, arith, length-append, length-take, take-append-drop}
 use Rattle.std.proofs.Math.Nat.{pow-le-pow_right}
 use Rattle.std.proofs.lemmas.List.{take_more, take_all, length-take-le, drop-set, append_assoc}
@@ -7,8 +7,8 @@ use Rattle.std.proofs.lemmas.Bool.{and_from, and_parts, le-leb, leb-true, lt-ltb
 use Rattle.faults.specs.declared.Cause.{Cause}
 use Rattle.faults.specs.declared.Cause.TheVariants.{Empty}
 use Rattle.kinds.specs.Kinds.{Lawful, AllFrom}
-use Rattle.fields.specs.Numbers.{unless, digit, number_from, number_of, digits, numeral, number_kind, AllDigits}
-use Rattle.kinds.specs.Admitted.{all_admitted, none_refused, all_append, all_left, all_right, unless_false}
+use Rattle.fields.specs.Numbers.{whole, unless, digit, number_from, number_of, digits, numeral, number_kind, AllDigits}
+use Rattle.kinds.specs.Admitted.{Within, within_cond, all_admitted, none_refused, all_append, all_left, all_right, unless_false}
 
 from_append : (n : ℕ) (xs ys : List ℕ) → number_from n (xs ++ ys) ≡ number_from (number_from n xs) ys
 from_append n [] ys = refl
@@ -107,10 +107,15 @@ pub unless_none : (t : Bool) (cause : Cause) → unless t cause ≡ None → t �
 unless_none true cause h = refl
 unless_none false cause h = let z : ◌≡◌ {A = ℕ} 0 1 = cc in absurd (omega arith)
 
+pub unless_within : (w : ℕ) (t : Bool) (cause : Cause) → Within w (unless t cause)
+unless_within w t cause = within_cond w t None (Some (whole cause)) tt (omega arith)
+
 pub numeral_lawful : (w : ℕ) (test : ℕ → Bool) (cause : Cause) → Lawful (numeral w test cause)
 numeral_lawful w test cause =
     let fits : (n : ℕ) → (numeral w test cause).wrong n ≡ None → (n < 10 ^ w) × (unless (test n) cause ≡ None) = λ n h. let p = unless_false _ _ _ h in (ltb-true n (10 ^ w) p.0, p.1) in
     record {
+      flaw_within = λ bs long. unless_within w _ cause;
+      wrong_within = λ n. within_cond w (nat_lt n (10 ^ w)) _ _ (unless_within w (test n) cause) (omega arith);
       spelled_width = λ n h. length_digits w n;
       spelled_proper = λ n h. all_admitted _ 0 (digits w n) _ (digits_proper w n 0) ∙ rw (digits_read w n (fits n h).0) (fits n h).1;
       read_back = λ n h. digits_read w n (fits n h).0;

@@ -1,15 +1,17 @@
 -- The laws of the kinds of characters.
-use Rattle.std.specs.Prelude.{◌≡◌, ℕ, ◌+◌, ◌-◌, ◌<◌, ◌≤◌, false, List, [], ◌∷◌, ◌++◌, length, take, drop, replicate, None, Option, ◌==◌, nat_lt, slice_index, refl}
-use Rattle.std.proofs.Common.{sym, ap, subst, ◌∙◌, arith}
+use Rattle.std.specs.Prelude.{◌≡◌, ℕ, ◌+◌, ◌-◌, ◌<◌, ◌≤◌, false, Some, List, [], ◌∷◌, ◌++◌, length, take, drop, replicate, None, codes, Option, ◌==◌, nat_lt, slice_index, refl}
+use Rattle.std.proofs.Common.{sym, ap, subst, inl, inr, ◌∙◌, arith}
 use Rattle.std.specs.List.{AllByRecursion}
 use Rattle.std.proofs.ByRecursion.{All-append, All-take}
 use Rattle.std.proofs.lemmas.List.{length-append, length-replicate, length-take-le, take_at, take_all, take-append-drop, get_or_append_left, get_or-take}
-use Rattle.std.proofs.lemmas.Bool.{ne_eqb, eqb-false, ltb-false, le-ltb, cond-false}
-use Rattle.faults.specs.Faults.{Misfit}
+use Rattle.std.proofs.lemmas.Bool.{cases_Bool, ne_eqb, eqb-false, ltb-false, le-ltb, cond-false}
+use Rattle.faults.specs.declared.Cause.TheVariants.{Empty, StrayBlank}
+use Rattle.fields.specs.Numbers.{whole}
+use Rattle.faults.specs.declared.Misfit.{Misfit}
 use Rattle.kinds.specs.Kinds.{Lawful, fault}
-use Rattle.kinds.specs.Admitted.{Passes, all_pass, passed_all, all_replicate, unless_true}
+use Rattle.kinds.specs.Admitted.{Within, within_cond, within_refused, Passes, all_pass, passed_all, all_replicate, unless_true}
 use Rattle.fields.specs.Laws.TextEnds.{end_stops, end_le, end_again, last_stands, blanks_follow, end_front, end_filled}
-use Rattle.fields.specs.Texts.{mark_kind, text_kind, is_blank, character, text_end, text_of, text_flaw}
+use Rattle.fields.specs.Texts.{mark_kind, text_kind, member, ends_blank, is_blank, character, text_end, text_of, text_flaw}
 
 -- a list of one byte
 pub single : (bs : List ℕ) → length bs ≡ 1 → bs ≡ slice_index bs 0 ∷ []
@@ -19,12 +21,17 @@ single (b ∷ c ∷ bs) h = absurd (omega arith)
 
 pub mark_lawful : Lawful mark_kind
 mark_lawful = record {
+  flaw_within = λ bs w. tt;
+  wrong_within = λ b. within_cond 1 (member b (codes " NWXY")) None _ tt (omega arith);
   spelled_width = λ v h. refl;
   spelled_proper = λ v h. h;
   read_back = λ v h. refl;
   value_admitted = λ bs w h. subst (λ (xs : List ℕ). fault mark_kind xs ≡ None) (single bs w) h;
   written_back = λ bs w h. sym (single bs w);
 }
+
+flaw_within : (w : ℕ) (bs : List ℕ) (later : Option Misfit) → Within w later → Within w (text_flaw bs later)
+flaw_within w bs later h = within_cond w (text_end bs (length bs) == 0) (Some (whole Empty)) _ (omega arith) (within_cond w (is_blank (slice_index bs 0)) (Some (whole StrayBlank)) later (omega arith) h)
 
 -- what a text's flaw is made of
 pub flaw_parts : (bs : List ℕ) (later : Option Misfit) → text_flaw bs later ≡ None → (0 < text_end bs (length bs)) × (is_blank (slice_index bs 0) ≡ false) × (later ≡ None)
@@ -110,6 +117,11 @@ module _ (w : ℕ) (bs : List ℕ) (wide : length bs ≡ w) (proper : fault (tex
 
 pub text_lawful : (w : ℕ) → Lawful (text_kind w)
 text_lawful w = record {
+  flaw_within = λ bs wide. flaw_within w bs None tt;
+  wrong_within = λ v. elim (cases_Bool (nat_lt w (length v))) [
+    | inl e ↦ rw e (omega arith)
+    | inr e ↦ rw e (let fits = ltb-false w (length v) e in within_refused w (λ _ b. character b) 0 v _ (omega arith) (flaw_within w v (ends_blank v) (within_cond w (is_blank (slice_index v (length v - 1))) (Some (record { cause = StrayBlank; offset = length v - 1 })) None (omega arith) tt)))
+  ];
   spelled_width = λ v h. let F = form_from w v h in length_filled w v ∙ omega (arith, F.fits);
   spelled_proper = λ v h. filled_proper w v (form_from w v h);
   read_back = λ v h. ap (λ n. take n (filled w v)) (filled_end w v (form_from w v h)) ∙ take_at v _ (length v) refl;

@@ -1,15 +1,12 @@
-use Rattle.std.proofs.Common.{sym, ◌∙◌}
-use Rattle.book.specs.Books.{rows_of}
-use Rattle.listed.proofs.OnList.{this_one, next_one, no_one}
+use Rattle.std.proofs.Common.{◌∙◌, rules, tests}
+use Rattle.std.specs.Str.{bytes_eq}
+use Rattle.std.proofs.lemmas.Iterator.{YieldsList-from_slice}
+use Rattle.std.proofs.lemmas.Iterator.Search.{any_from_yields_List}
+use Rattle.listed.specs.Listed.{BankOf, bank_of}
+use Rattle.listed.proofs.OnList.{list_any_map}
 use Rattle.listed.proofs.has_name.Goals as goal
 
-pub returns-then-same : goal.returns-then-same
-returns-then-same c =
-    this_one c.args.name.now (rows_of c.args.list.now) c.rows-row-items.result.now c.rows-row-items.ensures c.loop-row.row-index _ c.loop-row-test.true c.if-same.ensures ∙ sym c.loop-row.invariant
-
-pub loop-row-preserved : goal.loop-row-preserved
-loop-row-preserved c =
-    c.loop-row.invariant ∙ next_one c.args.name.now (rows_of c.args.list.now) c.rows-row-items.result.now c.rows-row-items.ensures c.loop-row.row-index _ c.loop-row-test.true c.if-same.ensures
-
 pub returns : goal.returns
-returns c = sym (c.loop-row.invariant ∙ no_one c.args.name.now (rows_of c.args.list.now) c.rows-row-items.result.now c.rows-row-items.ensures c.loop-row.row-index c.loop-row-test.false)
+returns c =
+    any_from_yields_List (λ row. bytes_eq row.value.now c.args.name.now) _ _ _ c.any.ensures.ran (YieldsList-from_slice c.args.list.now.rows cc) (λ x b q k. search (rules, tests))
+    ∙ list_any_map bank_of (λ (bank : BankOf). bytes_eq bank.name c.args.name.now) c.args.list.now.rows

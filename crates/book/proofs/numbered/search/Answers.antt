@@ -1,31 +1,20 @@
-use Rattle.std.proofs.Common.{◌+◌, ◌-◌, ◌/◌, ◌<◌, ◌≤◌, arith}
-use Rattle.book.proofs.Found.{place_is, below_it, not_below_it}
+use Rattle.std.proofs.Common.{◌≡◌, ℕ, ◌≤◌, true, false, Bool, List, [], ◌∷◌, ltb, length, sym, arith, rules}
+use Rattle.std.specs.List.{prefix_len}
+use Rattle.std.specs.List.Sorted.{IsPartitionPoint}
+use Rattle.std.proofs.lemmas.List.Sorted.{IsPartitionPoint-from_clause, IsPartitionedBy-ltb}
+use Rattle.std.proofs.lemmas.List.Sums.{prefix_len_is}
 use Rattle.book.proofs.numbered.search.Goals as goal
 
-pub loop-low-preserved-then-number-wanted : goal.loop-low-preserved-then-number-wanted
-loop-low-preserved-then-number-wanted g c =
-    let key = g.R.Numbered.key in
-    let row = c.index-rows-middle.result in
-    let less : key row < c.args.wanted = omega arith in (
-      omega arith,
-      omega arith,
-      λ rises. below_it key c.args.wanted c.args.rows.now (c.loop-low.low + (c.loop-low.high - c.loop-low.low) / 2) row (omega arith) c.index-rows-middle.is rises less,
-      c.loop-low.invariant.3,
-    )
+-- those that pass the test stand first
+is_prefix_len : {R : Type 0} (p : R → Bool) (rows : List R) (place : ℕ) → place ≤ length rows → IsPartitionPoint (λ row. p row ≡ true) (λ row. p row ≡ false) rows place → place ≡ prefix_len p rows
+is_prefix_len p [] place within point = omega arith
+is_prefix_len p (row ∷ rows) place within point =
+    sym (prefix_len_is p (row ∷ rows) place row within (λ k before. point.0 k row (omega arith) before) (λ inside. point.1 place row (omega arith) inside))
 
-pub loop-low-preserved : goal.loop-low-preserved
-loop-low-preserved g c =
+pub returns-clause-found : goal.returns-clause-found
+returns-clause-found g c = λ rises.
     let key = g.R.Numbered.key in
-    let row = c.index-rows-middle.result in
-    let more : c.args.wanted ≤ key row = omega arith in (
-      omega arith,
-      omega arith,
-      c.loop-low.invariant.2,
-      λ rises. not_below_it key c.args.wanted c.args.rows.now (c.loop-low.low + (c.loop-low.high - c.loop-low.low) / 2) row (omega arith) c.index-rows-middle.is rises more,
-    )
-
-pub returns : goal.returns
-returns g c = record {
-  within = omega arith;
-  found = λ rises. place_is g.R.Numbered.key c.args.wanted c.args.rows.now c.loop-low.low (omega arith) (c.loop-low.invariant.2 rises) (λ d less. c.loop-low.invariant.3 rises c.loop-low.low d (omega arith) less);
-}
+    let rows = c.args.rows.now in
+    let wanted = c.args.wanted in
+    is_prefix_len (λ row. ltb (key row) wanted) rows c.partition_point.result c.partition_point.ensures.bound
+    (IsPartitionPoint-from_clause (λ row. ltb (key row) wanted) rows _ c.partition_point.ensures.partitioned (IsPartitionedBy-ltb key rows wanted rises) (λ a r q k. search rules))

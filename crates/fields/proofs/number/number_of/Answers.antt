@@ -6,19 +6,19 @@ use Rattle.fields.proofs.number.number_of.Goals as goal
 
 -- the number so far has at most 17 digits
 pub overflow_mul-n : goal.overflow_mul-n
-overflow_mul-n c = omega (arith, c.loop-b.invariant, number_below c.args.bytes.now c.requires.digits c.loop-b.b-index 17 (omega arith) (omega arith))
+overflow_mul-n c = omega (arith, c.loop-byte.invariant, number_below c.args.bytes.now c.requires.digits c.loop-byte.byte-index 17 (omega arith) (omega arith))
 
-pub overflow_sub-n : goal.overflow_sub-n
-overflow_sub-n c = (digit_at c.args.bytes.now c.requires.digits c.loop-b.b-index c.loop-b-test.true).0
+pub overflow_sub-byte : goal.overflow_sub-byte
+overflow_sub-byte c = (digit_at c.args.bytes.now c.requires.digits c.loop-byte.byte-index c.loop-byte-test.true).0
 
 pub overflow_add-n : goal.overflow_add-n
 overflow_add-n c =
-    let less = number_below c.args.bytes.now c.requires.digits c.loop-b.b-index 17 (omega arith) (omega arith) in
-    let digit = digit_at c.args.bytes.now c.requires.digits c.loop-b.b-index c.loop-b-test.true in
-    omega (arith, c.loop-b.invariant)
+    let less = number_below c.args.bytes.now c.requires.digits c.loop-byte.byte-index 17 (omega arith) (omega arith) in
+    let digit = digit_at c.args.bytes.now c.requires.digits c.loop-byte.byte-index c.loop-byte-test.true in
+    omega (arith, c.loop-byte.invariant)
 
-pub loop-b-preserved : goal.loop-b-preserved
-loop-b-preserved c = omega (arith, c.loop-b.invariant, number_more c.args.bytes.now c.requires.digits c.loop-b.b-index c.loop-b-test.true)
+pub loop-byte-preserved : goal.loop-byte-preserved
+loop-byte-preserved c = omega (arith, c.loop-byte.invariant, number_more c.args.bytes.now c.requires.digits c.loop-byte.byte-index c.loop-byte-test.true)
 
 pub returns : goal.returns
-returns c = c.loop-b.invariant ∙ ap number_of (take_all _ _ c.loop-b-test.false)
+returns c = c.loop-byte.invariant ∙ ap number_of (take_all _ _ c.loop-byte-test.false)

@@ -1,6 +1,0 @@
-use Rattle.std.proofs.Common.{◌≡◌, ◌+◌, drop}
-use Rattle.fields.specs.Texts.{first_blank}
-use Rattle.fields.proofs.account.flaw_from.Given as goal
-
-abbrev pub invariant-loop-i : goal.invariant-loop-i
-invariant-loop-i l = first_blank l.start l.account ≡ first_blank (l.start + l.i) (drop l.i l.account)

@@ -1,0 +1,34 @@
+//! How wide a field is, which bytes may stand where, and the one scan that finds the first that may not.
+ghost use Rattle.std.specs.Prelude.{◌≡◌, ℕ, ◌+◌, ◌^◌, ◌<◌, Bool, length, None};
+ghost use Rattle.kinds.specs.Kinds.{refused_from, answered};
+
+use faults::{Cause, Misfit};
+
+/// How wide a field is, and which byte may stand where.
+pub trait Shape {
+    const WIDTH: usize;
+
+    ghost WIDTH: { ℕ };
+
+    ghost admits: { Self → ℕ → ℕ → Bool };
+
+    /// Whether a byte may stand at a place of the field, counted from 0.
+    fn admits(&self, place: usize, byte: u8) -> bool
+        ensures { result ≡ admits self.now place byte };
+}
+
+/// Whether each byte may stand where it stands, the first at place `start` of the field.
+pub fn scan<S: Shape>(shape: &S, bytes: &[u8], start: usize) -> Result<(), Misfit>
+    requires room { start + length bytes.now < 2 ^ 64 }
+    ensures { result ≡ answered (refused_from (S.admits shape.now) start bytes.now None) tt }
+{
+    for (i, byte) in bytes.iter().enumerate() {
+        if !shape.admits(start + i, *byte) {
+            return Err(Misfit {
+                cause: Cause::WrongByte,
+                offset: start + i,
+            });
+        }
+    }
+    Ok(())
+}
