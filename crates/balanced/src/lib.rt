@@ -28,7 +28,7 @@ pub struct Balanced<'a> {
 // The only bank that the house serves.
 const BANK_NAME: &[u8] = b"BQL";
 
-// Why the balanced house says no, by the number that it reports.
+// Why the balanced house says no, by the number that it reports: `as` gives it, a `From` would say it again by hand.
 #[derive(Clone, Copy, PartialEq, Eq, Debug)]
 enum Reason {
     BankName = 1,

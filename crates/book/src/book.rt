@@ -5,12 +5,13 @@ use std::marker::Model;
 /// A row of any kind that goes by a number.
 #[derive(Clone, Copy, PartialEq, Eq, Debug, Drop)]
 pub struct Row<V> {
-    // a field, and not a method that each kind of row has: so clauses name it, and no definition takes a key
+    // a field beside the method of `Numbered`, by which the search goes: so clauses name it, and no definition takes a key
     pub number: u64,
     pub value: V,
 }
 
 /// Numbered rows of any kind in rising order of number.
+// Without equality: it is seen as its rows and its room.
 #[derive(Drop)]
 pub struct Book<'a, V> {
     // a lent slice and a length, and no `Vec`: the library takes no memory of its own. The rows in use stand first

@@ -29,7 +29,7 @@ impl House for Capped {
 
     ghost sound = { λ house. capped_sound house.most };
 
-    fn objects_to_header(&self, header: &Header) -> Option<Objection> {
+    fn objects_to_header(&self, _header: &Header) -> Option<Objection> {
         None
     }
 
@@ -37,7 +37,7 @@ impl House for Capped {
         (payment.cents > self.most).then_some(TOO_MUCH)
     }
 
-    fn objects_to_tally(&self, tally: &Tally) -> Option<u8> {
+    fn objects_to_tally(&self, _tally: &Tally) -> Option<u8> {
         None
     }
 }

@@ -47,7 +47,7 @@ pub enum Cause {
     NoDetails,
     /// net, credit, debit or count differs
     WrongTotal,
-    /// the house says no to the tally, for this reason
+    /// the house says no to the tally, for this reason: a number, as above
     TallyRefused(u8),
     /// bytes follow the trailer
     BytesAfter,
@@ -68,6 +68,7 @@ pub enum Layer {
 
 impl Cause {
     /// The number of the refusal, 1 to 21.
+    // A `match`, and no `as`: two causes carry a reason.
     pub fn number(self) -> u8
         ensures { result ≡ number self }
     {
@@ -162,7 +163,8 @@ pub struct Misfit {
     pub offset: usize,
 }
 
-/// A refusal: why, and at which line and column. Outside reading the line is 0.
+/// A refusal: why, and at which line and column. Outside reading the line is 0, and a refusal that is about no column has 0
+/// there, since a refusal is reported by these numbers.
 #[derive(Clone, Copy, PartialEq, Eq, Debug)]
 pub struct Fault {
     pub cause: Cause,
@@ -191,6 +193,7 @@ impl fmt::Display for Fault {
 impl Error for Fault {}
 
 /// Where a field begins.
+// What is added to a column has to fit, and each call says so: a place is any line and column.
 #[derive(Clone, Copy, PartialEq, Eq, Debug)]
 pub struct Place {
     pub line: usize,

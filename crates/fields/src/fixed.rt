@@ -10,7 +10,8 @@ use kinds::shape::Shape;
 /// Exactly the given bytes.
 #[derive(Clone, Copy, PartialEq, Eq, Debug)]
 pub struct Fixed<const W: usize> {
-    // Not `&'static [u8; W]`: a law about the value does not see how long an array behind a reference is.
+    // A slice with its length beside it, and not `&'static [u8; W]`: a law about the value does not see how long an array
+    // behind a reference is, so the ghost field would stand there too.
     pub bytes: &'static [u8],
     ghost filled: { length bytes.now ≡ W },
 }

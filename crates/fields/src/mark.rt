@@ -12,6 +12,7 @@ use kinds::shape::Shape;
 #[derive(Clone, Copy, PartialEq, Eq, Debug)]
 pub struct Mark;
 
+// Matched as a `char`, since the rule speaks of letters. Its value is a byte and no enum: a form may give any.
 fn is_mark(byte: u8) -> bool
     ensures { result ≡ member byte (codes " NWXY") }
 {

@@ -1,5 +1,5 @@
 //! Digits, right justified, zero filled.
-ghost use Rattle.std.specs.Prelude.{◌≡◌, ℕ, ◌^◌, ◌<◌, ◌≤◌, Bool, length, nat_le, refl};
+ghost use Rattle.std.specs.Prelude.{◌≡◌, ⊤, ℕ, ◌^◌, ◌<◌, ◌≤◌, Bool, length, nat_le, refl};
 ghost use Rattle.faults.specs.declared.Cause.{Cause};
 ghost use Rattle.faults.specs.declared.Cause.TheVariants.{Empty, NoSuchValue};
 ghost use Rattle.kinds.specs.Kinds.{answered};
@@ -12,7 +12,7 @@ use kinds::kind::FieldKind;
 use kinds::shape::Shape;
 use std::alloc::AllocError;
 
-// The number that digits write.
+// The number that digits write. Not `parse`, which reads a `str` and takes a `+` before it.
 pub(crate) fn number_of(bytes: &[u8]) -> u64
     requires short { length bytes.now ≤ 18 }
     requires digits { AllDigits bytes.now }
@@ -25,11 +25,13 @@ pub(crate) fn number_of(bytes: &[u8]) -> u64
     n
 }
 
-// Writes a number into every column, the last digit first.
+// Writes a number into every column, the last digit first. It calls itself once a column: after a loop over `iter_mut` from
+// the end the check knows nothing of the columns. And no `write!`, which says nothing of the bytes.
 pub(crate) fn spell_digits(n: u64, out: &mut [u8])
     ensures { out.new ≡ digits (length out.old) n }
 {
     if let Some((last, front)) = out.split_last_mut() {
+        // one digit: there is no `From` that narrows
         *last = b'0' + (n % 10) as u8;
         spell_digits(n / 10, front);
     }
@@ -88,6 +90,10 @@ pub struct Number<const W: usize, N: Numbers> {
 
 // By hand: `Clone` is not derived for a struct that has a ghost field and a type parameter.
 impl<const W: usize, N: Numbers> Clone for Number<W, N> {
+    ghost is_clone = { λ x y. y ≡ x };
+
+    ghost is_infallible = { λ _. ⊤ };
+
     fn clone(&self) -> Result<Number<W, N>, AllocError> {
         Ok(*self)
     }

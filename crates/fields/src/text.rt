@@ -25,7 +25,7 @@ fn is_character(byte: u8) -> bool
 }
 
 // Where the text in so many columns ends: where the last column is blank, that of the text one column shorter. It follows
-// the rule's own wording, one call a blank, and is no search from the end; a field has at most 32 columns.
+// the rule's own wording, one call a blank, and not the library's `rposition`; a field has at most 32 columns.
 fn text_end(field: &[u8], columns: usize) -> usize
     requires { columns ≤ length field.now }
     ensures within { result ≤ columns }

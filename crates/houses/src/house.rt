@@ -11,6 +11,7 @@ use payments::Payment;
 use tally::Tally;
 
 /// A house is one bank's extra rules. Each question answers what its rule says of the values shown, alike each time, and alters nothing.
+// No question has a default body: that `None` is the answer depends on the house's rules.
 pub trait House {
     ghost rules: { Self → Rules };
 

@@ -17,15 +17,15 @@ impl House for Plain {
 
     ghost sound = { λ _. plain_sound };
 
-    fn objects_to_header(&self, header: &Header) -> Option<Objection> {
+    fn objects_to_header(&self, _header: &Header) -> Option<Objection> {
         None
     }
 
-    fn objects_to_payment(&self, payment: &Payment) -> Option<Objection> {
+    fn objects_to_payment(&self, _payment: &Payment) -> Option<Objection> {
         None
     }
 
-    fn objects_to_tally(&self, tally: &Tally) -> Option<u8> {
+    fn objects_to_tally(&self, _tally: &Tally) -> Option<u8> {
         None
     }
 }

@@ -42,7 +42,7 @@ impl Work for Inspection<'_> {
 
     ghost gives = { λ _ _ _. Unit {0} };
 
-    // An accepted file ends with success; it is printed either way.
+    // An accepted file ends with success; the answer is printed either way.
     fn under<H: House>(self, house: &H) -> anyhow::Result<ExitCode> {
         let heap = self.rt.alloc();
         let mut file = Vec::new(heap);

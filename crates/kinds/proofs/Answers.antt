@@ -1,7 +1,5 @@
 -- What an answer says of the fault that it came from.
-use Rattle.std.proofs.Common.{◌≡◌, Some, None, Ok, Err, Option, sym, refl, ap, ◌∙◌, subst}
-use Rattle.std.specs.Option.{option_or}
-use Rattle.faults.specs.declared.Fault.{Fault}
+use Rattle.std.proofs.Common.{◌≡◌, Some, None, Ok, Err, Option, sym, refl, ap}
 use Rattle.faults.specs.declared.Place.{Place}
 use Rattle.faults.specs.declared.Misfit.{Misfit}
 use Rattle.kinds.specs.Kinds.{answered, placed_at}
@@ -19,11 +17,7 @@ module _ {V E : Type 0} where
   gave None v w h = cc
   gave (Some e) v w h = absurd cc
 
--- the same answer with its value made over, and the same refusal where another value was to come
-pub carried : {V W E : Type 0} (g : V → W) (o : Option E) (v x : V) → Ok x ≡ answered o v → Ok (g x) ≡ answered o (g v)
-carried g None v x h = ap Ok (ap g (gave None v x h))
-carried g (Some e) v x h = absurd cc
-
+-- the same refusal where another value was to come
 pub refused : {V W E : Type 0} (o : Option E) (v : V) (w : W) (f : E) → Err f ≡ answered o v → Err f ≡ answered o w
 refused o v w f h = sym (ap (λ o. answered o w) (stopped o v f h))
 

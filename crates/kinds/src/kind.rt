@@ -5,6 +5,7 @@ ghost use Rattle.kinds.specs.Kinds.{Kind, Lawful, AllFrom, fault, answered, plac
 use crate::shape::{Shape, scan};
 use faults::{Fault, Misfit, Place};
 
+// `width` stays a clause: an array of a trait's constant number of bytes has no type. `room` stays one as in `Layout`.
 /// A kind of field: what may stand in it, what it means, and how a value is spelled.
 pub trait FieldKind<'a>: Shape {
     type Value: Copy;

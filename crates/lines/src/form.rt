@@ -27,6 +27,7 @@ pub trait RecordForm<'a>: Copy {
         ensures answer { result ≡ answered (form_fault form.row (start 0) (form.fields (shown self.now))) tt }
         ensures after { OnOk result (out.new ≡ record_bytes form (shown self.now)) };
 
+    // No default: what it answers depends on the form's `flaw`.
     /// What is wrong with proper values taken together, on a line.
     fn judge_together(&self, line: usize) -> Result<(), Fault>
         ensures { result ≡ answered (form.flaw line (shown self.now)) tt };

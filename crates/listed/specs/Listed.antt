@@ -11,6 +11,8 @@ use Rattle.fields.specs.Texts.{text_kind}
 use Rattle.book.specs.declared.book.Row.{Row}
 use Rattle.book.specs.Held.{Held}
 use Rattle.houses.specs.Rules.{Rules, no}
+use Rattle.listed.specs.declared.Reason.{Reason}
+use Rattle.listed.specs.declared.Reason.TheVariants.{Name, Number}
 
 -- a bank line by its values
 pub record BankOf : Type 0 where
@@ -39,10 +41,15 @@ named name banks = list_any (λ bank. bytes_eq bank.name name) banks
 abbrev pub bank_digits : ℕ → ℕ
 bank_digits bsb = bsb / 10000
 
+-- the reasons' numbers
+abbrev pub number : Reason → ℕ
+number Name = 1
+number Number = 2
+
 -- the header's bank is on the list, and so are the banks of each payment and of its trace
 abbrev pub listed_rules : List BankOf → Rules
 listed_rules banks = record {
-  header = λ h. cond (named h.bank banks) None (no 1 21);
-  payment = λ p. cond (numbered (bank_digits p.bsb) banks) (cond (numbered (bank_digits p.trace_bsb) banks) None (no 2 81)) (no 2 2);
+  header = λ h. cond (named h.bank banks) None (no (number Name) 21);
+  payment = λ p. cond (numbered (bank_digits p.bsb) banks) (cond (numbered (bank_digits p.trace_bsb) banks) None (no (number Number) 81)) (no (number Number) 2);
   tally = λ _. None;
 }

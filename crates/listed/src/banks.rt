@@ -30,6 +30,7 @@ fn judge_bank(bank: Row<&[u8]>) -> Result<(), Fault>
     )
 }
 
+// `after` speaks of the names' bytes, wherever the book keeps them, so the room stands in a clause of its own.
 /// One line more at the end of a bank list, a name by its number: judged as a form, and then as any row of a book.
 pub fn list_bank<'n>(list: &mut Book<'_, &'n [u8]>, bank: Row<&'n [u8]>) -> Result<(), Fault>
     ensures answer { result ≡ answered (option_or (bank_wrong (bank_of bank.entry)) (row_fault list.old bank.entry.number)) tt }

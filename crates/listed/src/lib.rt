@@ -4,7 +4,7 @@
 
 ghost use Rattle.std.specs.Prelude.{◌≡◌};
 ghost use Rattle.listed.specs.Laws.{listed_sound};
-ghost use Rattle.listed.specs.Listed.{banks_of, listed_rules, named, numbered, bank_digits};
+ghost use Rattle.listed.specs.Listed.{banks_of, listed_rules, number, named, numbered, bank_digits};
 
 pub mod banks;
 
@@ -16,18 +16,31 @@ use payments::Payment;
 use tally::Tally;
 
 /// The house that knows the banks of a list, whichever rows the list has.
+// Without equality, as the book that it goes by.
 #[derive(Clone, Copy)]
 pub struct Listed<'l, 'a, 'n> {
     pub list: &'l Book<'a, &'n [u8]>,
 }
 
-// What the house says no for.
+// What the house says no for, by the number that it reports: `as` gives it, a `From` would say it again by hand.
 #[derive(Clone, Copy, PartialEq, Eq, Debug)]
 enum Reason {
     // the header's bank is not on the list, by its name
     Name = 1,
     // the bank of a BSB is not on the list, by its number
     Number = 2,
+}
+
+impl Reason {
+    // The objection for this reason, at a column.
+    fn at(self, column: usize) -> Objection
+        ensures { result ≡ record { reason = number self; column = column } }
+    {
+        Objection {
+            reason: self as u8,
+            column,
+        }
+    }
 }
 
 fn has_bank(list: &Book<&[u8]>, bsb: u64) -> bool
@@ -51,30 +64,21 @@ impl<'l, 'a, 'n> House for Listed<'l, 'a, 'n> {
         if has_name(self.list, header.bank) {
             None
         } else {
-            Some(Objection {
-                reason: Reason::Name as u8,
-                column: 21,
-            })
+            Some(Reason::Name.at(21))
         }
     }
 
     fn objects_to_payment(&self, payment: &Payment) -> Option<Objection> {
         if !has_bank(self.list, payment.bsb) {
-            Some(Objection {
-                reason: Reason::Number as u8,
-                column: 2,
-            })
+            Some(Reason::Number.at(2))
         } else if !has_bank(self.list, payment.trace_bsb) {
-            Some(Objection {
-                reason: Reason::Number as u8,
-                column: 81,
-            })
+            Some(Reason::Number.at(81))
         } else {
             None
         }
     }
 
-    fn objects_to_tally(&self, tally: &Tally) -> Option<u8> {
+    fn objects_to_tally(&self, _tally: &Tally) -> Option<u8> {
         None
     }
 }

@@ -77,6 +77,7 @@ impl<'a> RecordForm<'a> for Payment<'a> {
         if self.tax == 0 {
             return Ok(());
         }
+        // as a `char`: the rule speaks of letters
         match self.mark as char {
             'W' | 'X' | 'Y' => Ok(()),
             _ => Err(Cause::TaxUnmarked.at(line, 113)),

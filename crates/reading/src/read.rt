@@ -143,6 +143,7 @@ fn summarize<'a, H: House>(file: &'a [u8], house: &H) -> Result<Summary<'a>, Fau
             }
         }
     }
+    // on the last of these lines stands the trailer, or one detail too many
     unreachable!()
 }
 

@@ -53,10 +53,10 @@ pub fn record(file: &[u8], line: usize) -> Result<Record, Fault>
     ensures answer { map_ok record_of result ≡ record_at line (rest_at file.now line) }
     ensures worked { Worked }
 {
-    let (columns, _) = cut_line(rest_at(file, line), line)?;
+    let (cut, _) = cut_line(rest_at(file, line), line)?;
     if line == 1 {
-        first_record(columns)
+        first_record(cut)
     } else {
-        later_record(columns)
+        later_record(cut)
     }
 }

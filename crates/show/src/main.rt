@@ -12,6 +12,7 @@ const MOST: usize = 65_514;
 
 fn main(rt: HostRuntime) -> anyhow::Result<()> {
     let mut file = Vec::new(rt.alloc());
+    // there is no `From<usize>`
     rt.stdin().take(MOST as u64 + 1).read_to_end(&mut file)?;
     if file.len() > MOST {
         println!(rt; "too long")?;

@@ -20,6 +20,7 @@ pub struct Row {
 pub struct Last<'a> {
     pub bsb: u64,
     pub account: &'a [u8],
+    // a number, as in a payment: a tally takes any
     pub code: u64,
 }
 
@@ -48,6 +49,7 @@ fn place_of(code: u64) -> Option<usize>
 {
     match code {
         13 => Some(0),
+        // at most 8: there is no `From` that narrows
         50..=57 => Some((code - 49) as usize),
         _ => None,
     }
@@ -63,6 +65,7 @@ impl Row {
     }
 }
 
+// Two sums and no closure for what is summed: its clause would have to say what the closure gives.
 // How many payments some rows count. A sum does not wrap, since a slice has fewer than 2^64 rows.
 fn count_of(rows: &[Row]) -> u128
     ensures { result ≡ rows_count rows.now }

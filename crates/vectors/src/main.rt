@@ -22,7 +22,7 @@ use tally::Tally;
 use words::Unmade;
 use words::work::{Work, under};
 
-// The codes of a tally's rows.
+// The codes of a tally's rows, which have places and no codes of their own.
 const CODES: [u64; 9] = [13, 50, 51, 52, 53, 54, 55, 56, 57];
 
 // A case's file, the line that names its records, and where its answers go.
@@ -66,7 +66,7 @@ impl<W: Write> Case<'_, W> {
             Ok(record) => {
                 let shown = RecordLine(record);
                 writeln!(self.out, "{line}: {shown}")?;
-                if is_spelled_back(self.file, line, record) != Ok(true) {
+                if !is_spelled_back(self.file, line, record) {
                     writeln!(self.out, "{line}: is spelled otherwise")?;
                 }
             }
@@ -88,10 +88,10 @@ fn spelled(record: Record) -> Result<[u8; 120], Fault> {
 }
 
 // Whether a record is spelled as its line has it.
-fn is_spelled_back(file: &[u8], line: usize, record: Record) -> Result<bool, Fault> {
-    let columns = spelled(record)?;
+fn is_spelled_back(file: &[u8], line: usize, record: Record) -> bool {
     let start = line.saturating_sub(1).saturating_mul(122);
-    Ok(file.get(start..start.saturating_add(120)) == Some(columns.as_slice()))
+    let part = file.get(start..start.saturating_add(120));
+    spelled(record).is_ok_and(|columns| part == Some(columns.as_slice()))
 }
 
 impl<W: Write> Work for Case<'_, W> {

@@ -70,13 +70,13 @@ listed_all room banks (word ∷ words) = cond (is_ok (listing (book_of room bank
 -- a house, and what words say that it is made from
 pub data HouseOf : Type 0 where
   plain : HouseOf
-  listed : List (List ℕ) → HouseOf
+  listed : HouseOf
   balanced : ℕ → List ℕ → HouseOf
 
 -- a choice of the program as one of the definitions
 abbrev pub house_of : Choice → HouseOf
 house_of Plain = plain
-house_of (Listed lines) = listed (map (λ x. x.now) lines.now)
+house_of Listed = listed
 house_of (Balanced bsb account) = balanced bsb account.now
 
 -- a BSB, which is a number, an account, and no word more
@@ -90,7 +90,7 @@ settling (bsb ∷ account ∷ more ∷ rest) = None
 abbrev pub house_said : List ℕ → List (List ℕ) → Option HouseOf
 house_said name rest =
     cond (bytes_eq name (codes "plain") && length rest == 0) (Some plain)
-    (cond (bytes_eq name (codes "listed")) (Some (listed rest))
+    (cond (bytes_eq name (codes "listed")) (Some listed)
     (cond (bytes_eq name (codes "balanced")) (settling rest) None))
 
 -- the house that words choose

@@ -19,10 +19,10 @@ pub mod work;
 
 /// A house and what it is made from, as the words say it.
 #[derive(Clone, Copy, PartialEq, Eq, Debug)]
-pub enum Choice<'s, 'w> {
+pub enum Choice<'w> {
     Plain,
-    /// the words that are bank lines
-    Listed(&'s [&'w [u8]]),
+    /// the rest of the words are bank lines
+    Listed,
     /// the settling BSB and account
     Balanced(u64, &'w [u8]),
 }
@@ -57,6 +57,7 @@ impl fmt::Display for Unmade {
 
 impl Error for Unmade {}
 
+// Not `parse`, which reads a `str` and takes a `+` before the digits.
 // The number with one digit more at its end, if the byte is a digit and the number fits.
 fn with_digit(n: u64, byte: u8) -> Option<u64>
     ensures { result ≡ said_after n (byte ∷ []) }
@@ -83,7 +84,7 @@ fn number(digits: &[u8]) -> Option<u64>
 }
 
 // What the balanced house is made from: a BSB and an account.
-fn settling<'s, 'w>(words: &'s [&'w [u8]]) -> Option<Choice<'s, 'w>>
+fn settling<'w>(words: &[&'w [u8]]) -> Option<Choice<'w>>
     ensures { option_map house_of result ≡ settling (map (λ x. x.now) words.now) }
 {
     let [bsb, account] = words else {
@@ -93,7 +94,7 @@ fn settling<'s, 'w>(words: &'s [&'w [u8]]) -> Option<Choice<'s, 'w>>
 }
 
 /// The house that words choose: `plain`, `listed 12=BQL 62=CBA ..` or `balanced 124001 234567890`.
-pub fn choose<'s, 'w>(words: &'s [&'w [u8]]) -> Option<Choice<'s, 'w>>
+pub fn choose<'w>(words: &[&'w [u8]]) -> Option<Choice<'w>>
     ensures { option_map house_of result ≡ chosen (map (λ x. x.now) words.now) }
 {
     let [name, rest @ ..] = words else {
@@ -105,7 +106,7 @@ pub fn choose<'s, 'w>(words: &'s [&'w [u8]]) -> Option<Choice<'s, 'w>>
         return Some(Choice::Plain);
     }
     if name == b"listed".as_slice() {
-        return Some(Choice::Listed(rest));
+        return Some(Choice::Listed);
     }
     if name == b"balanced".as_slice() {
         return settling(rest);
@@ -132,6 +133,7 @@ fn bank_said<'w>(word: &'w [u8]) -> Option<Row<&'w [u8]>>
     })
 }
 
+// As in `list_bank`, the room stands in a clause of its own, and so below.
 /// Puts the bank that a word says on the list. A word that is refused changes nothing.
 pub fn list_word<'w>(list: &mut Book<'_, &'w [u8]>, word: &'w [u8]) -> Result<(), Unmade>
     ensures answer { result ≡ listing list.old (bank_said word.now) }

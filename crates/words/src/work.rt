@@ -10,10 +10,11 @@ use houses::house::House;
 use houses::plain::Plain;
 use listed::Listed;
 
-// One for each two-digit number.
+// One for each two-digit number, in an array: the library takes no memory of its own.
 const MOST_BANKS: usize = 100;
 
 /// What can be done under any house.
+// A trait and no closure: a closure cannot be generic over the house.
 pub trait Work: Drop {
     type Output;
 
@@ -23,7 +24,7 @@ pub trait Work: Drop {
         ensures { gives self (H.House.rules house.now) result };
 }
 
-// The same under the listed house of these bank lines.
+// The work under the listed house of these bank lines.
 fn under_listed<W: Work>(lines: &[&[u8]], work: W) -> Result<W::Output, Unmade>
     ensures { DoneUnder (W.gives work) (listed_made (map (λ x. x.now) lines.now)) result }
 {
@@ -41,9 +42,13 @@ fn under_listed<W: Work>(lines: &[&[u8]], work: W) -> Result<W::Output, Unmade>
 pub fn under<W: Work>(words: &[&[u8]], work: W) -> Result<W::Output, Unmade>
     ensures { DoneUnder (W.gives work) (rules_said (map (λ x. x.now) words.now)) result }
 {
+    let [_, lines @ ..] = words else {
+        return Err(Unmade::Words);
+    };
+    // a `match`: three houses of three types
     match choose(words).ok_or(Unmade::Words)? {
         Choice::Plain => Ok(work.under(&Plain)),
-        Choice::Listed(lines) => under_listed(lines, work),
+        Choice::Listed => under_listed(lines, work),
         Choice::Balanced(bsb, account) => Ok(work.under(&Balanced::new(bsb, account)?)),
     }
 }

@@ -1,8 +1,8 @@
 -- Digits and the numbers that they write, and the laws of the kinds made of them.
-use Rattle.std.specs.Prelude.{◌≡◌, ℕ, zero, suc, ◌+◌, ◌-◌, ◌*◌, ◌/◌, ◌%◌, ◌^◌, ◌<◌, ◌≤◌, Bool, true, false, List, [], ◌∷◌, ◌++◌, length, take, drop, None, nat_le, slice_index, slice_index_or, slice_set, refl, Some, nat_lt}
+use Rattle.std.specs.Prelude.{◌≡◌, ℕ, zero, suc, ◌+◌, ◌-◌, ◌*◌, ◌/◌, ◌%◌, ◌^◌, ◌<◌, ◌≤◌, Bool, true, false, List, [], ◌∷◌, ◌++◌, length, take, drop, None, nat_le, slice_index, slice_index_or, refl, Some, nat_lt}
 use Rattle.std.proofs.Common.{sym, ap, subst, ◌∙◌, pow-suc, add-one, arith, length-append, length-take, take-append-drop}
 use Rattle.std.proofs.Math.Nat.{pow-le-pow_right}
-use Rattle.std.proofs.lemmas.List.{take_more, take_all, length-take-le, drop-set, append_assoc}
+use Rattle.std.proofs.lemmas.List.{take_more, take_all, length-take-le}
 use Rattle.std.proofs.lemmas.Bool.{and_from, and_parts, le-leb, leb-true, lt-ltb, ltb-true}
 use Rattle.faults.specs.declared.Cause.{Cause}
 use Rattle.faults.specs.declared.Cause.TheVariants.{Empty}
@@ -94,13 +94,6 @@ module _ (bs : List ℕ) (all : AllDigits bs) where
 
   pub number_more : (i : ℕ) → i < length bs → number_of (take (i + 1) bs) ≡ number_of (take i bs) * 10 + (slice_index bs i - 48)
   number_more i h = ap number_of (take_more bs i 0 h) ∙ number_push (take i bs) (slice_index bs i)
-
--- one more column written, from the last to the first
-pub digits_written : (i n : ℕ) (out : List ℕ) → 0 < i → i ≤ length out → digits i n ++ drop i out ≡ digits (i - 1) (n / 10) ++ drop (i - 1) (slice_set out (i - 1) (48 + n % 10))
-digits_written zero n out h k = absurd (omega arith)
-digits_written (suc i) n out h k =
-    let less : suc i - 1 ≡ i = omega arith in
-    rw (less, drop-set out i (48 + n % 10) (omega arith), add-one) (append_assoc (digits i (n / 10)) _ _)
 
 -- a test that passed, and one that must pass
 pub unless_none : (t : Bool) (cause : Cause) → unless t cause ≡ None → t ≡ true
