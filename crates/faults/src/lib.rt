@@ -8,6 +8,7 @@ ghost use Rattle.faults.specs.Faults.{number, layer, reason, fault_at, placed, r
 use std::error::Error;
 use std::fmt;
 
+// A house's reason is a number: each bank's house numbers its own.
 /// Why a call is refused. `number` and `layer` say how each is reported.
 #[derive(Clone, Copy, PartialEq, Eq, Debug)]
 pub enum Cause {

@@ -35,7 +35,8 @@ fn is_positive(account: &[u8]) -> bool
     account.iter().any(|byte| matches!(*byte, b'1'..=b'9'))
 }
 
-// What is wrong with an account whose first byte stands at place `start` of the field.
+// What is wrong with an account whose first byte stands at place `start` of the field. Not `scan`: a blank is admitted there.
+// `room` as in `scan`.
 fn expect_account(account: &[u8], start: usize) -> Result<(), Misfit>
     requires room { start + length account.now < 2 ^ 64 }
     ensures { result ≡ answered (account_flaw start account.now) tt }

@@ -131,6 +131,7 @@ impl<'a, const W: usize, N: Numbers> FieldKind<'a> for Number<W, N> {
     }
 
     fn judge(&self, value: u64) -> Result<(), Misfit> {
+        // `pow` takes a `u32`, and there is no `From` that narrows
         expect(value < 10u64.pow(W as u32), Cause::TooWide)?;
         self.numbers.expect(value)
     }

@@ -18,7 +18,7 @@ use words::work::{Work, under};
 // The bytes of a file with 999,999 details; a longer one is refused by what stands there.
 const LARGEST: u64 = 122_000_122;
 
-// Judges the file on standard input, and prints what is in it.
+// Judges the file on standard input, and prints what is in it. Nothing compares it, so it has no equality.
 #[derive(Clone, Copy)]
 struct Inspection<'a> {
     rt: &'a HostRuntime,

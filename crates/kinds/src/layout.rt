@@ -7,6 +7,7 @@ use crate::kind::{FieldKind, judge_field, take_field};
 use faults::{Fault, Place};
 
 // `room` stays with each call: a place is any line and column, and a bound in its type would be asked for where one is made.
+// `width` stays too: the size of a row is a sum, and no constant that an array's type could name.
 /// A row of fields: nothing, `()`, or a kind and the row after it, `(kind, row)`.
 pub trait Layout<'a> {
     type Values: Copy;

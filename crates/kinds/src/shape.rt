@@ -17,6 +17,7 @@ pub trait Shape {
         ensures { result ≡ admits self.now place byte };
 }
 
+// `room` stays a clause: bytes that end at the last number there is are no field's, but a slice and a place may be any.
 /// Whether each byte may stand where it stands, the first at place `start` of the field.
 pub fn scan<S: Shape>(shape: &S, bytes: &[u8], start: usize) -> Result<(), Misfit>
     requires room { start + length bytes.now < 2 ^ 64 }

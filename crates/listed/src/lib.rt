@@ -32,7 +32,7 @@ enum Reason {
 }
 
 impl Reason {
-    // The objection for this reason, at a column.
+    // The objection for this reason, at a column. Each house's reasons are an enum of its own, and so each has this.
     fn at(self, column: usize) -> Objection
         ensures { result ≡ record { reason = number self; column = column } }
     {

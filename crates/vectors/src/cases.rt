@@ -4,6 +4,7 @@ use anyhow::anyhow;
 use std::str::from_utf8;
 
 /// What is left of the stored cases, and the line that was read last.
+// Nothing compares it, so it has no equality.
 #[derive(Drop)]
 pub struct Cases<'a> {
     rest: &'a [u8],

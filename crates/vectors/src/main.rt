@@ -25,7 +25,7 @@ use words::work::{Work, under};
 // The codes of a tally's rows, which have places and no codes of their own.
 const CODES: [u64; 9] = [13, 50, 51, 52, 53, 54, 55, 56, 57];
 
-// A case's file, the line that names its records, and where its answers go.
+// A case's file, the line that names its records, and where its answers go. Nothing compares it, so it has no equality.
 #[derive(Drop)]
 struct Case<'a, W> {
     out: &'a mut W,

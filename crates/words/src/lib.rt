@@ -68,7 +68,7 @@ fn with_digit(n: u64, byte: u8) -> Option<u64>
     }
 }
 
-// The number that digits write, if it fits.
+// The number that digits write, if it fits. Not `parse`, as above.
 #[tactic(auto, using(crate::proofs::Said::read_out))]
 fn number(digits: &[u8]) -> Option<u64>
     ensures { result ≡ number_said digits.now }

@@ -1,6 +1,4 @@
-use Rattle.std.proofs.Common.{ap, ◌∙◌, arith}
-use Rattle.std.proofs.lemmas.List.{take_all}
-use Rattle.fields.specs.Numbers.{number_of}
+use Rattle.std.proofs.Common.{arith}
 use Rattle.fields.specs.Laws.Numbers.{number_more, number_below, digit_at}
 use Rattle.fields.proofs.number.number_of.Goals as goal
 
@@ -19,6 +17,3 @@ overflow_add-n c =
 
 pub loop-byte-preserved : goal.loop-byte-preserved
 loop-byte-preserved c = omega (arith, c.loop-byte.invariant, number_more c.args.bytes.now c.requires.digits c.loop-byte.byte-index c.loop-byte-test.true)
-
-pub returns : goal.returns
-returns c = c.loop-byte.invariant ∙ ap number_of (take_all _ _ c.loop-byte-test.false)
