@@ -19,23 +19,23 @@ impl<V> Numbered for Row<V> {
 impl<'a, V: Drop> Book<'a, V> {
     /// A book that holds no rows, and has room for as many as the slice.
     pub fn new(rows: &'a mut [Row<V>]) -> Book<'a, V>
-        ensures { result ≡ record { rows = []; room = length rows.old } }
+        ensures { result.held ≡ record { rows = []; room = length rows.old } }
     {
         Book { rows, used: 0 }
     }
 
     /// The rows in use.
     pub fn rows(&self) -> &[Row<V>]
-        ensures all { result.now ≡ self.now.rows }
+        ensures all { result.now ≡ self.now.held.rows }
         ensures rising { Climbs (λ r. r.number) result.now }
-        ensures within { length result.now ≤ self.now.room }
+        ensures within { length result.now ≤ self.now.held.room }
     {
         &self.rows[..self.used]
     }
 
     /// Where the row of a number stands, if there is one.
     pub fn find(&self, number: u64) -> Option<usize>
-        ensures { FoundAt self.now.rows number result }
+        ensures { FoundAt self.now.held.rows number result }
     {
         let rows = self.rows();
         let place = search(rows, number);
@@ -48,8 +48,8 @@ impl<'a, V: Drop> Book<'a, V> {
 
     /// A row at the end: refused where its number is not above the last one's, and then where every row is taken.
     pub fn add(&mut self, row: Row<V>) -> Result<(), Fault>
-        ensures answer { result ≡ answered (row_fault self.old row.number) tt }
-        ensures after { self.new ≡ (if is_ok result then with_row self.old row else self.old) }
+        ensures answer { result ≡ answered (row_fault self.old.held row.number) tt }
+        ensures after { self.new.held ≡ (if is_ok result then with_row self.old.held row else self.old.held) }
     {
         expect_above(self.rows(), row.number)?;
         if self.used >= self.rows.len() {

@@ -2,7 +2,7 @@
 ghost use Rattle.std.specs.Prelude.{◌≡◌, ◌==◌, not, position, ◌+◌, ◌^◌, ◌<◌, ◌≤◌, length, refl};
 ghost use Rattle.kinds.specs.Kinds.{answered};
 ghost use Rattle.fields.specs.Texts.{account_kind, account_byte, account_flaw, positive, indent};
-ghost use Rattle.fields.specs.Laws.Accounts.{account_lawful};
+ghost use Rattle.fields.specs.Laws.Accounts.{account_lawful, account_in_field};
 
 use crate::whole::expect;
 use faults::{Cause, Misfit};
@@ -72,9 +72,17 @@ impl<'a> FieldKind<'a> for Account {
 
     ghost shown = { λ _ v. v.now };
 
-    ghost shape = { λ _. (refl, refl) };
+    ghost shape = { λ _. refl };
 
     ghost laws = { λ _. account_lawful };
+
+    ghost within = { λ _. account_in_field (λ v. v.now) };
+
+    fn columns(&self) -> usize
+        ensures { result ≡ 9 }
+    {
+        Self::WIDTH
+    }
 
     fn value(&self, field: &'a [u8]) -> Result<&'a [u8], Misfit> {
         let start = indent_of(field);

@@ -1,6 +1,6 @@
 //! Bytes that never vary: blanks, a record's type, a code of the format.
 ghost use Rattle.std.specs.Prelude.{◌≡◌, length, refl};
-ghost use Rattle.fields.specs.Laws.Fixed.{fixed_lawful};
+ghost use Rattle.fields.specs.Laws.Fixed.{fixed_lawful, fixed_in_field};
 ghost use Rattle.fields.specs.Texts.{fixed_kind};
 
 use faults::Misfit;
@@ -35,9 +35,15 @@ impl<'a, const W: usize> FieldKind<'a> for Fixed<W> {
 
     ghost shown = { λ _ v. v };
 
-    ghost shape = { λ s. (s.filled, refl) };
+    ghost shape = { λ _. refl };
 
     ghost laws = { λ s. fixed_lawful s.bytes.now };
+
+    ghost within = { λ s. fixed_in_field s.bytes.now (λ v. v) };
+
+    fn columns(&self) -> usize {
+        Self::WIDTH
+    }
 
     fn value(&self, _field: &'a [u8]) -> Result<(), Misfit> {
         Ok(())

@@ -1,7 +1,7 @@
 //! A mark of one column: blank, N for new details, or W, X, Y for tax withheld.
 ghost use Rattle.std.specs.Prelude.{◌≡◌, codes, refl};
 ghost use Rattle.fields.specs.Texts.{mark_kind, member};
-ghost use Rattle.fields.specs.Laws.Texts.{mark_lawful};
+ghost use Rattle.fields.specs.Laws.Texts.{mark_lawful, mark_in_field};
 
 use crate::whole::expect;
 use faults::{Cause, Misfit};
@@ -41,9 +41,15 @@ impl<'a> FieldKind<'a> for Mark {
 
     ghost shown = { λ _ v. v };
 
-    ghost shape = { λ _. (refl, refl) };
+    ghost shape = { λ _. refl };
 
     ghost laws = { λ _. mark_lawful };
+
+    ghost within = { λ _. mark_in_field (λ v. v) };
+
+    fn columns(&self) -> usize {
+        Self::WIDTH
+    }
 
     fn value(&self, field: &'a [u8]) -> Result<u8, Misfit> {
         Ok(field[0])

@@ -2,6 +2,7 @@
 
 #![tactic(auto)]
 
+pub mod bytes;
 pub mod house;
 pub mod objection;
 pub mod plain;

@@ -33,14 +33,17 @@ abbrev pub fault : Kind → List ℕ → Option Misfit
 fault k bs = refused_from k.admits 0 bs (k.flaw bs)
 
 pub record Lawful (k : Kind) : Type 0 where
-  -- what is wrong stands in the field, or right behind it
-  pub flaw_within : (bs : List ℕ) → length bs ≡ k.width → IfSome (k.flaw bs) (λ m. m.offset ≤ k.width)
-  pub wrong_within : (v : k.Value) → IfSome (k.wrong v) (λ m. m.offset ≤ k.width)
   pub spelled_width : (v : k.Value) → k.wrong v ≡ None → length (k.spell v) ≡ k.width
   pub spelled_proper : (v : k.Value) → k.wrong v ≡ None → fault k (k.spell v) ≡ None
   pub read_back : (v : k.Value) → k.wrong v ≡ None → k.value (k.spell v) ≡ v
   pub value_admitted : (bs : List ℕ) → length bs ≡ k.width → fault k bs ≡ None → k.wrong (k.value bs) ≡ None
   pub written_back : (bs : List ℕ) → length bs ≡ k.width → fault k bs ≡ None → k.spell (k.value bs) ≡ bs
+
+-- what is wrong stands in the field, or right behind it: with a field as a whole, once every byte is admitted, and with a
+-- form's value, where `shown` says how a value of the program stands for one of the kind
+pub record InField (k : Kind) {V : Type 0} (shown : V → k.Value) : Type 0 where
+  pub flaw_within : (bs : List ℕ) → length bs ≡ k.width → AllFrom k.admits 0 bs → IfSome (k.flaw bs) (λ m. m.offset ≤ k.width)
+  pub wrong_within : (v : V) → IfSome (k.wrong (shown v)) (λ m. m.offset ≤ k.width)
 
 -- a misfit at its line and column
 abbrev pub placed_at : Place → Option Misfit → Option Fault

@@ -1,11 +1,12 @@
 //! What every kind of field gives, and what is written once for all of them: no kind knows where it stands.
 ghost use Rattle.std.specs.Prelude.{◌≡◌, ◌+◌, ◌^◌, ◌<◌, ◌≤◌, length, None, IfErr};
-ghost use Rattle.kinds.specs.Kinds.{Kind, Lawful, AllFrom, fault, answered, placed_at, map_ok};
+ghost use Rattle.kinds.specs.Kinds.{Kind, Lawful, InField, AllFrom, fault, answered, placed_at, map_ok};
 
 use crate::shape::{Shape, scan};
 use faults::{Fault, Misfit, Place};
 
-// `width` stays a clause: an array of a trait's constant number of bytes has no type. `room` stays one as in `Layout`.
+// `width` stays a clause: a kind may leave its width to its value, and an array of a trait's constant number of bytes has no
+// type. `room` stays one as in `Layout`.
 /// A kind of field: what may stand in it, what it means, and how a value is spelled.
 pub trait FieldKind<'a>: Shape {
     type Value: Copy;
@@ -15,9 +16,13 @@ pub trait FieldKind<'a>: Shape {
     // how a value of the program stands for one of the definition
     ghost shown: { (s : Self) → Self.Value → (kind s).Value };
 
+    /// How many columns the field has: a kind may leave that to its value. Each of the eight has its constant `WIDTH`.
+    fn columns(&self) -> usize
+        ensures { result ≡ (kind self.now).width };
+
     /// The value of a field whose bytes are all admitted, or what is wrong with it as a whole.
     fn value(&self, field: &'a [u8]) -> Result<Self::Value, Misfit>
-        requires width { length field.now ≡ Self.WIDTH }
+        requires width { length field.now ≡ (kind self.now).width }
         requires admitted { AllFrom (kind self.now).admits 0 field.now }
         ensures { map_ok (shown self.now) result ≡ answered ((kind self.now).flaw field.now) ((kind self.now).value field.now) };
 
@@ -27,22 +32,25 @@ pub trait FieldKind<'a>: Shape {
 
     /// Writes a value that is refused for nothing into the field's columns.
     fn spell(&self, value: Self::Value, out: &mut [u8])
-        requires width { length out.old ≡ Self.WIDTH }
+        requires width { length out.old ≡ (kind self.now).width }
         requires admitted { (kind self.now).wrong (shown self.now value) ≡ None }
         ensures { out.new ≡ (kind self.now).spell (shown self.now value) };
 
-    // the width and the bytes that may stand are those of the kind
-    ghost shape: { (s : Self) → ((kind s).width ≡ Self.WIDTH) × ((kind s).admits ≡ Self.admits s) };
+    // the bytes that may stand are those of the kind
+    ghost shape: { (s : Self) → (kind s).admits ≡ Self.admits s };
 
     ghost laws: { (s : Self) → Lawful (kind s) };
+
+    // so that a misfit can be placed, once for all kinds
+    ghost within: { (s : Self) → InField (kind s) (shown s) };
 }
 
 // The value of a field, or what is wrong with it, wherever it stands.
 #[tactic(auto, using(crate::proofs::Scan::field_refused, crate::proofs::Scan::field_admitted, crate::proofs::Scan::field_flaw, crate::proofs::Scan::refused_first))]
 fn value_of<'a, K: FieldKind<'a>>(kind: &K, field: &'a [u8]) -> Result<K::Value, Misfit>
-    requires { length field.now ≡ K.WIDTH }
+    requires { length field.now ≡ (K.kind kind.now).width }
     ensures answer { map_ok (K.shown kind.now) result ≡ answered (fault (K.kind kind.now) field.now) ((K.kind kind.now).value field.now) }
-    ensures within { IfErr result (λ m. m.offset ≤ K.WIDTH) }
+    ensures within { IfErr result (λ m. m.offset ≤ (K.kind kind.now).width) }
 {
     scan(kind, field, 0)?;
     kind.value(field)
@@ -54,8 +62,8 @@ pub fn take_field<'a, K: FieldKind<'a>>(
     field: &'a [u8],
     at: Place,
 ) -> Result<K::Value, Fault>
-    requires width { length field.now ≡ K.WIDTH }
-    requires room { at.column + K.WIDTH < 2 ^ 64 }
+    requires width { length field.now ≡ (K.kind kind.now).width }
+    requires room { at.column + (K.kind kind.now).width < 2 ^ 64 }
     ensures { map_ok (K.shown kind.now) result ≡ answered (placed_at at (fault (K.kind kind.now) field.now)) ((K.kind kind.now).value field.now) }
 {
     value_of(kind, field).map_err(|misfit| at.fault(misfit))
@@ -63,7 +71,7 @@ pub fn take_field<'a, K: FieldKind<'a>>(
 
 /// What a form's value is refused for.
 pub fn judge_field<'a, K: FieldKind<'a>>(kind: &K, value: K::Value, at: Place) -> Result<(), Fault>
-    requires room { at.column + K.WIDTH < 2 ^ 64 }
+    requires room { at.column + (K.kind kind.now).width < 2 ^ 64 }
     ensures { result ≡ answered (placed_at at ((K.kind kind.now).wrong (K.shown kind.now value))) tt }
 {
     kind.judge(value).map_err(|misfit| at.fault(misfit))

@@ -60,16 +60,18 @@ impl<'a, K: FieldKind<'a>, L: Layout<'a>> Layout<'a> for (K, L) {
     ghost laws = { λ s. (K.laws s.0, L.laws s.1) };
 
     fn read(&self, bytes: &'a [u8], at: Place) -> Result<(K::Value, L::Values), Fault> {
-        let (field, rest) = bytes.split_at(K::WIDTH);
+        let width = self.0.columns();
+        let (field, rest) = bytes.split_at(width);
         let value = take_field(&self.0, field, at)?;
-        let others = self.1.read(rest, at.right(K::WIDTH))?;
+        let others = self.1.read(rest, at.right(width))?;
         Ok((value, others))
     }
 
     fn spell(&self, values: (K::Value, L::Values), at: Place, out: &mut [u8]) -> Result<(), Fault> {
         judge_field(&self.0, values.0, at)?;
-        let (field, rest) = out.split_at_mut(K::WIDTH);
+        let width = self.0.columns();
+        let (field, rest) = out.split_at_mut(width);
         self.0.spell(values.0, field);
-        self.1.spell(values.1, at.right(K::WIDTH), rest)
+        self.1.spell(values.1, at.right(width), rest)
     }
 }

@@ -1,5 +1,5 @@
 //! How wide a field is, which bytes may stand where, and the one scan that finds the first that may not.
-ghost use Rattle.std.specs.Prelude.{◌≡◌, ℕ, ◌+◌, ◌^◌, ◌<◌, Bool, length, None};
+ghost use Rattle.std.specs.Prelude.{◌≡◌, ℕ, ◌+◌, ◌^◌, ◌<◌, Bool, length, None, IfErr};
 ghost use Rattle.kinds.specs.Kinds.{refused_from, answered};
 
 use faults::{Cause, Misfit};
@@ -21,7 +21,8 @@ pub trait Shape {
 /// Whether each byte may stand where it stands, the first at place `start` of the field.
 pub fn scan<S: Shape>(shape: &S, bytes: &[u8], start: usize) -> Result<(), Misfit>
     requires room { start + length bytes.now < 2 ^ 64 }
-    ensures { result ≡ answered (refused_from (S.admits shape.now) start bytes.now None) tt }
+    ensures answer { result ≡ answered (refused_from (S.admits shape.now) start bytes.now None) tt }
+    ensures within { IfErr result (λ m. m.offset < start + length bytes.now) }
 {
     for (i, byte) in bytes.iter().enumerate() {
         if !shape.admits(start + i, *byte) {

@@ -19,6 +19,14 @@ impl<'a> Line<'a> {
     ghost use Rattle.kinds.specs.Layouts.{start};
     ghost use Rattle.lines.specs.Lines.{head_fault, tagged};
 
+    /// The line of a number that has these columns, whichever they are.
+    pub fn new(columns: &'a [u8; 120], number: usize) -> Line<'a>
+        ensures columns { result.columns.now ≡ columns.now }
+        ensures number { result.number ≡ number }
+    {
+        Line { columns, number }
+    }
+
     /// Where its first column is.
     pub fn start(self) -> Place
         ensures { result ≡ start self.entry.number }

@@ -32,5 +32,5 @@ pub fn cut_line(rest: &[u8], number: usize) -> Result<(Line<'_>, &[u8]), Fault>
     if end[1] != b'\n' {
         return Err(Cause::LineEnd.at(number, 122));
     }
-    Ok((Line { columns, number }, after))
+    Ok((Line::new(columns, number), after))
 }

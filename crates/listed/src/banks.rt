@@ -33,9 +33,9 @@ fn judge_bank(bank: Row<&[u8]>) -> Result<(), Fault>
 // `after` speaks of the names' bytes, wherever the book keeps them, so the room stands in a clause of its own.
 /// One line more at the end of a bank list, a name by its number: judged as a form, and then as any row of a book.
 pub fn list_bank<'n>(list: &mut Book<'_, &'n [u8]>, bank: Row<&'n [u8]>) -> Result<(), Fault>
-    ensures answer { result ≡ answered (option_or (bank_wrong (bank_of bank.entry)) (row_fault list.old bank.entry.number)) tt }
-    ensures after { banks_of list.new ≡ (if is_ok result then banks_of list.old ++ bank_of bank.entry ∷ [] else banks_of list.old) }
-    ensures room { list.new.room ≡ list.old.room }
+    ensures answer { result ≡ answered (option_or (bank_wrong (bank_of bank.entry)) (row_fault list.old.held bank.entry.number)) tt }
+    ensures after { banks_of list.new.held ≡ (if is_ok result then banks_of list.old.held ++ bank_of bank.entry ∷ [] else banks_of list.old.held) }
+    ensures room { list.new.held.room ≡ list.old.held.room }
 {
     judge_bank(bank)?;
     list.add(bank)

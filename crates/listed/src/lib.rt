@@ -44,21 +44,21 @@ impl Reason {
 }
 
 fn has_bank(list: &Book<&[u8]>, bsb: u64) -> bool
-    ensures { result ≡ numbered (bank_digits bsb) (banks_of list.now) }
+    ensures { result ≡ numbered (bank_digits bsb) (banks_of list.now.held) }
 {
     list.find(bsb / 10_000).is_some()
 }
 
 fn has_name(list: &Book<&[u8]>, name: &[u8]) -> bool
-    ensures { result ≡ named name.now (banks_of list.now) }
+    ensures { result ≡ named name.now (banks_of list.now.held) }
 {
     list.rows().iter().any(|row| row.value == name)
 }
 
 impl<'l, 'a, 'n> House for Listed<'l, 'a, 'n> {
-    ghost rules = { λ h. listed_rules (banks_of h.list.now) };
+    ghost rules = { λ h. listed_rules (banks_of h.list.now.held) };
 
-    ghost sound = { λ h. listed_sound (banks_of h.list.now) };
+    ghost sound = { λ h. listed_sound (banks_of h.list.now.held) };
 
     fn objects_to_header(&self, header: &Header) -> Option<Objection> {
         if has_name(self.list, header.bank) {

@@ -83,3 +83,13 @@ module _ (ps : List PaymentOf) where
 
   pub tallied_count : AllByRecursion (λ q. in_table q.code ≡ true) ps → rows_count (tallied ps).rows ≡ length ps
   tallied_count known = sum_by_sums (λ code q. cond (eqb q.code code) 1 0) (λ _. 1) the_codes ps (All-weaker _ _ (λ q. one_code q.code 1) ps known) ∙ sum_by_one ps
+
+  -- each side with one payment more
+  pub credits_more : (p : PaymentOf) → credits (ps ++ p ∷ []) ≡ credits ps + cond (is_debit p) 0 p.cents
+  credits_more = sum_by_push credit_of ps
+
+  pub debits_more : (p : PaymentOf) → debits (ps ++ p ∷ []) ≡ debits ps + cond (is_debit p) p.cents 0
+  debits_more = sum_by_push (cents_of 13) ps
+
+  pub sides_bound : (n : ℕ) → length ps ≤ n → AllByRecursion (λ q. q.cents ≤ 9999999999) ps → (credits ps ≤ n * 9999999999) × (debits ps ≤ n * 9999999999)
+  sides_bound n few small = (omega (arith, bounded credit_of (λ q. grind (arith, nat_tests)) ps small), omega (arith, cents_bounded 13 ps small))

@@ -136,9 +136,9 @@ fn bank_said<'w>(word: &'w [u8]) -> Option<Row<&'w [u8]>>
 // As in `list_bank`, the room stands in a clause of its own, and so below.
 /// Puts the bank that a word says on the list. A word that is refused changes nothing.
 pub fn list_word<'w>(list: &mut Book<'_, &'w [u8]>, word: &'w [u8]) -> Result<(), Unmade>
-    ensures answer { result ≡ listing list.old (bank_said word.now) }
-    ensures after { banks_of list.new ≡ (if is_ok result then with_said (banks_of list.old) (bank_said word.now) else banks_of list.old) }
-    ensures room { list.new.room ≡ list.old.room }
+    ensures answer { result ≡ listing list.old.held (bank_said word.now) }
+    ensures after { banks_of list.new.held ≡ (if is_ok result then with_said (banks_of list.old.held) (bank_said word.now) else banks_of list.old.held) }
+    ensures room { list.new.held.room ≡ list.old.held.room }
 {
     let bank = bank_said(word).ok_or(Unmade::Words)?;
     list_bank(list, bank)?;
@@ -148,9 +148,9 @@ pub fn list_word<'w>(list: &mut Book<'_, &'w [u8]>, word: &'w [u8]) -> Result<()
 /// Puts the bank that each word says on the list, up to the first word that is refused.
 #[tactic(auto, using(crate::proofs::Listing::listing_next, crate::proofs::Listing::listed_next))]
 pub fn list_words<'w>(list: &mut Book<'_, &'w [u8]>, words: &[&'w [u8]]) -> Result<(), Unmade>
-    ensures answer { result ≡ listing_all list.old.room (banks_of list.old) (map (λ x. x.now) words.now) }
-    ensures after { banks_of list.new ≡ listed_all list.old.room (banks_of list.old) (map (λ x. x.now) words.now) }
-    ensures room { list.new.room ≡ list.old.room }
+    ensures answer { result ≡ listing_all list.old.held.room (banks_of list.old.held) (map (λ x. x.now) words.now) }
+    ensures after { banks_of list.new.held ≡ listed_all list.old.held.room (banks_of list.old.held) (map (λ x. x.now) words.now) }
+    ensures room { list.new.held.room ≡ list.old.held.room }
 {
     for word in words {
         list_word(list, word)?;

@@ -6,7 +6,7 @@ use Rattle.std.proofs.ByRecursion.{All-append, All-drop}
 use Rattle.std.proofs.lemmas.List.{length-append, length-replicate, length-drop, drop_at}
 use Rattle.std.proofs.lemmas.List.Sums.{prefix_len-le-length}
 use Rattle.std.proofs.lemmas.Bool.{cases_Bool, eqb-true, ltb-false, le-ltb, cond-true, cond-false}
-use Rattle.kinds.specs.Kinds.{Lawful, fault}
+use Rattle.kinds.specs.Kinds.{Lawful, InField, fault}
 use Rattle.kinds.specs.Admitted.{Within, within_cond, within_refused, Passes, all_pass, passed_all, all_replicate, unless_true, unless_false}
 use Rattle.fields.specs.Texts.{account_kind, is_blank, account_byte, positive, first_blank, account_flaw, indent}
 
@@ -99,14 +99,21 @@ within_flaw i v h = within_cond 9 (positive v) _ _ (within_blank i v h) (omega a
 
 pub account_lawful : Lawful account_kind
 account_lawful = record {
-  flaw_within = λ bs w. within_flaw (indent bs) (drop (indent bs) bs) (omega (arith, value_length bs w, prefix_len-le-length is_blank bs));
-  wrong_within = λ v. elim (cases_Bool (nat_lt 9 (length v))) [
-    | inl e ↦ rw e (omega arith)
-    | inr e ↦ let fits = ltb-false 9 (length v) e in rw e (within_refused 9 (λ _ b. account_byte b) (9 - length v) v _ (omega arith) (within_flaw (9 - length v) v (omega arith)))
-  ];
   spelled_width = λ v h. let F = form_from v h in simp (length-append, length-replicate) (omega (arith, F.fits));
   spelled_proper = λ v h. filled_proper v (form_from v h);
   read_back = λ v h. found v (form_from v h);
   value_admitted = λ bs w h. form_none (drop (indent bs) bs) (value_form bs w h);
   written_back = λ bs w h. written bs w;
+}
+
+within_wrong : (v : List ℕ) → Within 9 (account_kind.wrong v)
+within_wrong v = elim (cases_Bool (nat_lt 9 (length v))) [
+  | inl e ↦ rw e (omega arith)
+  | inr e ↦ let fits = ltb-false 9 (length v) e in rw e (within_refused 9 (λ _ b. account_byte b) (9 - length v) v _ (omega arith) (within_flaw (9 - length v) v (omega arith)))
+]
+
+pub account_in_field : {V : Type 0} (shown : V → List ℕ) → InField account_kind shown
+account_in_field shown = record {
+  flaw_within = λ bs w _. within_flaw (indent bs) (drop (indent bs) bs) (omega (arith, value_length bs w, prefix_len-le-length is_blank bs));
+  wrong_within = λ v. within_wrong (shown v);
 }

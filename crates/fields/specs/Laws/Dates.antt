@@ -5,7 +5,7 @@ use Rattle.std.proofs.lemmas.List.{drop_more, drop-drop, take_all}
 use Rattle.std.proofs.lemmas.Bool.{and_from, and_parts, le-leb, leb-true, lt-ltb, ltb-true, eqb-true, ne_eqb, cond_both, cond-true}
 use Rattle.fields.specs.declared.date.Date.{Date}
 use Rattle.faults.specs.declared.Cause.TheVariants.{TooWide, NoSuchValue}
-use Rattle.kinds.specs.Kinds.{Lawful, AllFrom, fault}
+use Rattle.kinds.specs.Kinds.{Lawful, InField, AllFrom, fault}
 use Rattle.fields.specs.Numbers.{unless, digit, number_of, digits, bsb_kind, date_kind, date_of, a_day, days_in, leap, AllDigits}
 use Rattle.kinds.specs.Admitted.{all_admitted, none_refused, all_weaker, all_at, all_part, unless_false, within_cond}
 use Rattle.fields.specs.Laws.Numbers.{digits_read, digit_proper, digits_back, number_less, unless_none, unless_within}
@@ -64,14 +64,18 @@ pub bsb_lawful : Lawful bsb_kind
 bsb_lawful =
     let fits : (n : ℕ) → bsb_kind.wrong n ≡ None → n < 1000000 = λ n h. ltb-true n 1000000 (unless_none _ TooWide h) in
     record {
-      flaw_within = λ bs long. tt;
-      wrong_within = λ n. unless_within 7 (nat_lt n 1000000) TooWide;
       spelled_width = λ n h. refl;
       spelled_proper = λ n h. all_admitted bsb_kind.admits 0 (bsb_kind.spell n) None (digit_proper (n / 1000 / 10 / 10), (digit_proper (n / 1000 / 10), (digit_proper (n / 1000), (refl, (digit_proper (n % 1000 / 10 / 10), (digit_proper (n % 1000 / 10), (digit_proper (n % 1000), tt)))))));
       read_back = λ n h. let less = fits n h in (λ i. digits_read 3 (n / 1000) (omega arith) i * 1000 + digits_read 3 (n % 1000) (omega arith) i) ∙ omega arith;
       value_admitted = λ bs long h. rw (lt-ltb (bsb_kind.value bs) 1000000 (omega (arith, high_less bs long h, low_less bs long h))) refl;
       written_back = bsb_back;
     }
+
+pub bsb_in_field : {V : Type 0} (shown : V → ℕ) → InField bsb_kind shown
+bsb_in_field shown = record {
+  flaw_within = λ bs long _. tt;
+  wrong_within = λ v. unless_within 7 (nat_lt (shown v) 1000000) TooWide;
+}
 
 -- the three parts of a date
 module _ (bs : List ℕ) (long : length bs ≡ 6) (all : AllDigits bs) where
@@ -128,8 +132,6 @@ date_lawful =
     let year : 2000 + (d.year - 2000) ≡ d.year = omega arith in
     (λ i. record { day = digits_read 2 d.day (omega arith) i; month = digits_read 2 d.month (omega arith) i; year = (ap (λ y. 2000 + y) (digits_read 2 (d.year - 2000) (omega arith)) ∙ year) i }) in
     record {
-      flaw_within = λ bs long. unless_within 6 _ NoSuchValue;
-      wrong_within = λ d. within_cond 6 (nat_le 2000 d.year && nat_le d.year 2099) _ _ (unless_within 6 (a_day d) NoSuchValue) (omega arith);
       spelled_width = λ d h. refl;
       spelled_proper = λ d h.
           all_admitted date_kind.admits 0 (date_kind.spell d) _ (digit_proper (d.day / 10), (digit_proper d.day, (digit_proper (d.month / 10), (digit_proper d.month, (digit_proper ((d.year - 2000) / 10), (digit_proper (d.year - 2000), tt))))))
@@ -143,3 +145,9 @@ date_lawful =
           cond-true _ _ _ (and_from _ _ late early) ∙ p.1;
       written_back = λ bs long h. date_back bs long (none_refused date_kind.admits 0 bs _ h).0;
     }
+
+pub date_in_field : {V : Type 0} (shown : V → Date) → InField date_kind shown
+date_in_field shown = record {
+  flaw_within = λ bs long _. unless_within 6 _ NoSuchValue;
+  wrong_within = λ v. let d = shown v in within_cond 6 (nat_le 2000 d.year && nat_le d.year 2099) _ _ (unless_within 6 (a_day d) NoSuchValue) (omega arith);
+}

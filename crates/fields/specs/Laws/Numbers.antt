@@ -1,12 +1,12 @@
 -- Digits and the numbers that they write, and the laws of the kinds made of them.
-use Rattle.std.specs.Prelude.{◌≡◌, ℕ, zero, suc, ◌+◌, ◌-◌, ◌*◌, ◌/◌, ◌%◌, ◌^◌, ◌<◌, ◌≤◌, Bool, true, false, List, [], ◌∷◌, ◌++◌, length, take, drop, None, nat_le, slice_index, slice_index_or, refl, Some, nat_lt}
+use Rattle.std.specs.Prelude.{◌≡◌, ℕ, zero, suc, ◌+◌, ◌-◌, ◌*◌, ◌/◌, ◌%◌, ◌^◌, ◌<◌, ◌≤◌, Bool, true, false, List, [], ◌∷◌, ◌++◌, length, take, drop, None, nat_le, slice_index, slice_index_or, slice_set, refl, Some, nat_lt}
 use Rattle.std.proofs.Common.{sym, ap, subst, ◌∙◌, pow-suc, add-one, arith, length-append, length-take, take-append-drop}
 use Rattle.std.proofs.Math.Nat.{pow-le-pow_right}
-use Rattle.std.proofs.lemmas.List.{take_more, take_all, length-take-le}
+use Rattle.std.proofs.lemmas.List.{take_more, take_all, length-take-le, drop-set, append_assoc}
 use Rattle.std.proofs.lemmas.Bool.{and_from, and_parts, le-leb, leb-true, lt-ltb, ltb-true}
 use Rattle.faults.specs.declared.Cause.{Cause}
 use Rattle.faults.specs.declared.Cause.TheVariants.{Empty}
-use Rattle.kinds.specs.Kinds.{Lawful, AllFrom}
+use Rattle.kinds.specs.Kinds.{Lawful, InField, AllFrom}
 use Rattle.fields.specs.Numbers.{whole, unless, digit, number_from, number_of, digits, numeral, number_kind, AllDigits}
 use Rattle.kinds.specs.Admitted.{Within, within_cond, all_admitted, none_refused, all_append, all_left, all_right, unless_false}
 
@@ -95,6 +95,13 @@ module _ (bs : List ℕ) (all : AllDigits bs) where
   pub number_more : (i : ℕ) → i < length bs → number_of (take (i + 1) bs) ≡ number_of (take i bs) * 10 + (slice_index bs i - 48)
   number_more i h = ap number_of (take_more bs i 0 h) ∙ number_push (take i bs) (slice_index bs i)
 
+-- one more column written, from the last to the first
+pub digits_written : (i n : ℕ) (out : List ℕ) → 0 < i → i ≤ length out → digits i n ++ drop i out ≡ digits (i - 1) (n / 10) ++ drop (i - 1) (slice_set out (i - 1) (48 + n % 10))
+digits_written zero n out h k = absurd (omega arith)
+digits_written (suc i) n out h k =
+    let less : suc i - 1 ≡ i = omega arith in
+    rw (less, drop-set out i (48 + n % 10) (omega arith), add-one) (append_assoc (digits i (n / 10)) _ _)
+
 -- a test that passed, and one that must pass
 pub unless_none : (t : Bool) (cause : Cause) → unless t cause ≡ None → t ≡ true
 unless_none true cause h = refl
@@ -107,8 +114,6 @@ pub numeral_lawful : (w : ℕ) (test : ℕ → Bool) (cause : Cause) → Lawful 
 numeral_lawful w test cause =
     let fits : (n : ℕ) → (numeral w test cause).wrong n ≡ None → (n < 10 ^ w) × (unless (test n) cause ≡ None) = λ n h. let p = unless_false _ _ _ h in (ltb-true n (10 ^ w) p.0, p.1) in
     record {
-      flaw_within = λ bs long. unless_within w _ cause;
-      wrong_within = λ n. within_cond w (nat_lt n (10 ^ w)) _ _ (unless_within w (test n) cause) (omega arith);
       spelled_width = λ n h. length_digits w n;
       spelled_proper = λ n h. all_admitted _ 0 (digits w n) _ (digits_proper w n 0) ∙ rw (digits_read w n (fits n h).0) (fits n h).1;
       read_back = λ n h. digits_read w n (fits n h).0;
@@ -117,6 +122,12 @@ numeral_lawful w test cause =
           rw (lt-ltb (number_of bs) (10 ^ w) (number_less w bs long p.0)) p.1;
       written_back = λ bs long h. digits_back w bs long (none_refused _ 0 bs _ h).0;
     }
+
+pub numeral_in_field : (w : ℕ) (test : ℕ → Bool) (cause : Cause) {V : Type 0} (shown : V → ℕ) → InField (numeral w test cause) shown
+numeral_in_field w test cause shown = record {
+  flaw_within = λ bs long _. unless_within w _ cause;
+  wrong_within = λ v. let n = shown v in within_cond w (nat_lt n (10 ^ w)) _ _ (unless_within w (test n) cause) (omega arith);
+}
 
 pub number_lawful : (w least : ℕ) → Lawful (number_kind w least)
 number_lawful w least = numeral_lawful w (nat_le least) Empty

@@ -8,7 +8,7 @@ use Rattle.std.proofs.lemmas.Bool.{cases_Bool, ne_eqb, eqb-false, ltb-false, le-
 use Rattle.faults.specs.declared.Cause.TheVariants.{Empty, StrayBlank}
 use Rattle.fields.specs.Numbers.{whole}
 use Rattle.faults.specs.declared.Misfit.{Misfit}
-use Rattle.kinds.specs.Kinds.{Lawful, fault}
+use Rattle.kinds.specs.Kinds.{Lawful, InField, fault}
 use Rattle.kinds.specs.Admitted.{Within, within_cond, within_refused, Passes, all_pass, passed_all, all_replicate, unless_true}
 use Rattle.fields.specs.Laws.TextEnds.{end_stops, end_le, end_again, last_stands, blanks_follow, end_front, end_filled}
 use Rattle.fields.specs.Texts.{mark_kind, text_kind, member, ends_blank, is_blank, character, text_end, text_of, text_flaw}
@@ -21,8 +21,6 @@ single (b ∷ c ∷ bs) h = absurd (omega arith)
 
 pub mark_lawful : Lawful mark_kind
 mark_lawful = record {
-  flaw_within = λ bs w. tt;
-  wrong_within = λ b. within_cond 1 (member b (codes " NWXY")) None _ tt (omega arith);
   spelled_width = λ v h. refl;
   spelled_proper = λ v h. h;
   read_back = λ v h. refl;
@@ -30,8 +28,14 @@ mark_lawful = record {
   written_back = λ bs w h. sym (single bs w);
 }
 
-flaw_within : (w : ℕ) (bs : List ℕ) (later : Option Misfit) → Within w later → Within w (text_flaw bs later)
-flaw_within w bs later h = within_cond w (text_end bs (length bs) == 0) (Some (whole Empty)) _ (omega arith) (within_cond w (is_blank (slice_index bs 0)) (Some (whole StrayBlank)) later (omega arith) h)
+pub mark_in_field : {V : Type 0} (shown : V → ℕ) → InField mark_kind shown
+mark_in_field shown = record {
+  flaw_within = λ bs w _. tt;
+  wrong_within = λ v. within_cond 1 (member (shown v) (codes " NWXY")) None _ tt (omega arith);
+}
+
+within_flaw : (w : ℕ) (bs : List ℕ) (later : Option Misfit) → Within w later → Within w (text_flaw bs later)
+within_flaw w bs later h = within_cond w (text_end bs (length bs) == 0) (Some (whole Empty)) _ (omega arith) (within_cond w (is_blank (slice_index bs 0)) (Some (whole StrayBlank)) later (omega arith) h)
 
 -- what a text's flaw is made of
 pub flaw_parts : (bs : List ℕ) (later : Option Misfit) → text_flaw bs later ≡ None → (0 < text_end bs (length bs)) × (is_blank (slice_index bs 0) ≡ false) × (later ≡ None)
@@ -117,14 +121,21 @@ module _ (w : ℕ) (bs : List ℕ) (wide : length bs ≡ w) (proper : fault (tex
 
 pub text_lawful : (w : ℕ) → Lawful (text_kind w)
 text_lawful w = record {
-  flaw_within = λ bs wide. flaw_within w bs None tt;
-  wrong_within = λ v. elim (cases_Bool (nat_lt w (length v))) [
-    | inl e ↦ rw e (omega arith)
-    | inr e ↦ rw e (let fits = ltb-false w (length v) e in within_refused w (λ _ b. character b) 0 v _ (omega arith) (flaw_within w v (ends_blank v) (within_cond w (is_blank (slice_index v (length v - 1))) (Some (record { cause = StrayBlank; offset = length v - 1 })) None (omega arith) tt)))
-  ];
   spelled_width = λ v h. let F = form_from w v h in length_filled w v ∙ omega (arith, F.fits);
   spelled_proper = λ v h. filled_proper w v (form_from w v h);
   read_back = λ v h. ap (λ n. take n (filled w v)) (filled_end w v (form_from w v h)) ∙ take_at v _ (length v) refl;
   value_admitted = λ bs wide h. form_none w (text_of bs) (value_form w bs wide h);
   written_back = refilled w;
+}
+
+within_wrong : (w : ℕ) (v : List ℕ) → Within w ((text_kind w).wrong v)
+within_wrong w v = elim (cases_Bool (nat_lt w (length v))) [
+  | inl e ↦ rw e (omega arith)
+  | inr e ↦ rw e (let fits = ltb-false w (length v) e in within_refused w (λ _ b. character b) 0 v _ (omega arith) (within_flaw w v (ends_blank v) (within_cond w (is_blank (slice_index v (length v - 1))) (Some (record { cause = StrayBlank; offset = length v - 1 })) None (omega arith) tt)))
+]
+
+pub text_in_field : (w : ℕ) {V : Type 0} (shown : V → List ℕ) → InField (text_kind w) shown
+text_in_field w shown = record {
+  flaw_within = λ bs wide _. within_flaw w bs None tt;
+  wrong_within = λ v. within_wrong w (shown v);
 }
