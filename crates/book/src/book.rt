@@ -14,7 +14,7 @@ pub struct Row<V> {
 }
 
 /// Numbered rows of any kind in rising order of number.
-// Without equality: it is seen as its rows and its room.
+// Without equality: it is seen as its rows, its room and what is so of them.
 #[derive(Drop)]
 pub struct Book<'a, V> {
     // a lent slice and a length, and no `Vec`: the library takes no memory of its own. The rows in use stand first

@@ -1,8 +1,8 @@
 //! An account: digits and hyphens, right justified, blank filled.
-ghost use Rattle.std.specs.Prelude.{◌≡◌, ◌==◌, not, position, ◌+◌, ◌^◌, ◌<◌, ◌≤◌, length, refl};
+ghost use Rattle.std.specs.Prelude.{◌≡◌, ◌==◌, not, position, ◌+◌, ◌^◌, ◌<◌, ◌≤◌, length, refl, IfErr};
 ghost use Rattle.kinds.specs.Kinds.{answered};
 ghost use Rattle.fields.specs.Texts.{account_kind, account_byte, account_flaw, positive, indent};
-ghost use Rattle.fields.specs.Laws.Accounts.{account_lawful, account_in_field};
+ghost use Rattle.fields.specs.Laws.Accounts.{account_lawful};
 
 use crate::whole::expect;
 use faults::{Cause, Misfit};
@@ -39,7 +39,8 @@ fn is_positive(account: &[u8]) -> bool
 // `room` as in `scan`.
 fn expect_account(account: &[u8], start: usize) -> Result<(), Misfit>
     requires room { start + length account.now < 2 ^ 64 }
-    ensures { result ≡ answered (account_flaw start account.now) tt }
+    ensures answer { result ≡ answered (account_flaw start account.now) tt }
+    ensures within { IfErr result (λ m. m.offset ≤ start + length account.now) }
 {
     expect(is_positive(account), Cause::Empty)?;
     for (i, byte) in account.iter().enumerate() {
@@ -72,11 +73,9 @@ impl<'a> FieldKind<'a> for Account {
 
     ghost shown = { λ _ v. v.now };
 
-    ghost shape = { λ _. refl };
+    ghost shape = { λ _ _ _ _ _. refl };
 
     ghost laws = { λ _. account_lawful };
-
-    ghost within = { λ _. account_in_field (λ v. v.now) };
 
     fn columns(&self) -> usize
         ensures { result ≡ 9 }

@@ -1,6 +1,6 @@
 //! A bank, state and branch: three digits, a hyphen, three digits.
 ghost use Rattle.std.specs.Prelude.{◌≡◌, refl};
-ghost use Rattle.fields.specs.Laws.Dates.{bsb_lawful, bsb_in_field};
+ghost use Rattle.fields.specs.Laws.Dates.{bsb_lawful};
 ghost use Rattle.fields.specs.Numbers.{bsb_kind};
 
 use crate::number::{is_digit, number_of, spell_digits};
@@ -36,11 +36,9 @@ impl<'a> FieldKind<'a> for Bsb {
 
     ghost shown = { λ _ n. n };
 
-    ghost shape = { λ _. refl };
+    ghost shape = { λ _ _ _ _ _. refl };
 
     ghost laws = { λ _. bsb_lawful };
-
-    ghost within = { λ _. bsb_in_field (λ n. n) };
 
     fn columns(&self) -> usize {
         Self::WIDTH

@@ -1,6 +1,6 @@
 //! A day of the years 2000 to 2099, as DDMMYY.
 ghost use Rattle.std.specs.Prelude.{◌≡◌, length, refl};
-ghost use Rattle.fields.specs.Laws.Dates.{date_lawful, date_in_field};
+ghost use Rattle.fields.specs.Laws.Dates.{date_lawful};
 ghost use Rattle.fields.specs.Numbers.{date_kind, date_of, a_day, days_in, leap, digit, AllDigits};
 
 use crate::date::Date;
@@ -71,11 +71,9 @@ impl<'a> FieldKind<'a> for Day {
 
     ghost shown = { λ _ d. d };
 
-    ghost shape = { λ _. refl };
+    ghost shape = { λ _ _ _ _ _. refl };
 
     ghost laws = { λ _. date_lawful };
-
-    ghost within = { λ _. date_in_field (λ d. d) };
 
     fn columns(&self) -> usize {
         Self::WIDTH

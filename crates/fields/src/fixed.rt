@@ -1,6 +1,6 @@
 //! Bytes that never vary: blanks, a record's type, a code of the format.
 ghost use Rattle.std.specs.Prelude.{◌≡◌, length, refl};
-ghost use Rattle.fields.specs.Laws.Fixed.{fixed_lawful, fixed_in_field};
+ghost use Rattle.fields.specs.Laws.Fixed.{fixed_lawful};
 ghost use Rattle.fields.specs.Texts.{fixed_kind};
 
 use faults::Misfit;
@@ -10,8 +10,8 @@ use kinds::shape::Shape;
 /// Exactly the given bytes.
 #[derive(Clone, Copy, PartialEq, Eq, Debug)]
 pub struct Fixed<const W: usize> {
-    // A slice with its length beside it, and not `&'static [u8; W]`: a law about the value does not see how long an array
-    // behind a reference is, so the ghost field would stand there too.
+    // A slice with its length beside it, and not `&'static [u8; W]`: `columns` answers `W` without a look at the bytes, and an
+    // array behind a reference shows its length only where it is looked at.
     pub bytes: &'static [u8],
     ghost filled: { length bytes.now ≡ W },
 }
@@ -35,11 +35,9 @@ impl<'a, const W: usize> FieldKind<'a> for Fixed<W> {
 
     ghost shown = { λ _ v. v };
 
-    ghost shape = { λ _. refl };
+    ghost shape = { λ _ _ _ _ _. refl };
 
     ghost laws = { λ s. fixed_lawful s.bytes.now };
-
-    ghost within = { λ s. fixed_in_field s.bytes.now (λ v. v) };
 
     fn columns(&self) -> usize {
         Self::WIDTH

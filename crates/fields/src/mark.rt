@@ -1,7 +1,7 @@
 //! A mark of one column: blank, N for new details, or W, X, Y for tax withheld.
 ghost use Rattle.std.specs.Prelude.{◌≡◌, codes, refl};
 ghost use Rattle.fields.specs.Texts.{mark_kind, member};
-ghost use Rattle.fields.specs.Laws.Texts.{mark_lawful, mark_in_field};
+ghost use Rattle.fields.specs.Laws.Texts.{mark_lawful};
 
 use crate::whole::expect;
 use faults::{Cause, Misfit};
@@ -41,11 +41,9 @@ impl<'a> FieldKind<'a> for Mark {
 
     ghost shown = { λ _ v. v };
 
-    ghost shape = { λ _. refl };
+    ghost shape = { λ _ _ _ _ _. refl };
 
     ghost laws = { λ _. mark_lawful };
-
-    ghost within = { λ _. mark_in_field (λ v. v) };
 
     fn columns(&self) -> usize {
         Self::WIDTH

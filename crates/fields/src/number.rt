@@ -3,7 +3,7 @@ ghost use Rattle.std.specs.Prelude.{◌≡◌, ⊤, ℕ, ◌^◌, ◌<◌, ◌�
 ghost use Rattle.faults.specs.declared.Cause.{Cause};
 ghost use Rattle.faults.specs.declared.Cause.TheVariants.{Empty, NoSuchValue};
 ghost use Rattle.kinds.specs.Kinds.{answered};
-ghost use Rattle.fields.specs.Laws.Numbers.{numeral_lawful, numeral_in_field};
+ghost use Rattle.fields.specs.Laws.Numbers.{numeral_lawful};
 ghost use Rattle.fields.specs.Numbers.{unless, numeral, in_table, number_of, digits, AllDigits, digit};
 
 use crate::whole::expect;
@@ -120,11 +120,9 @@ impl<'a, const W: usize, N: Numbers> FieldKind<'a> for Number<W, N> {
 
     ghost shown = { λ _ n. n };
 
-    ghost shape = { λ _. refl };
+    ghost shape = { λ _ _ _ _ _. refl };
 
     ghost laws = { λ _. numeral_lawful W N.takes N.cause };
-
-    ghost within = { λ _. numeral_in_field W N.takes N.cause (λ n. n) };
 
     fn columns(&self) -> usize {
         Self::WIDTH

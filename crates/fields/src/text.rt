@@ -2,7 +2,7 @@
 ghost use Rattle.std.specs.Prelude.{◌≡◌, ◌≤◌, length, None, IfOk, refl};
 ghost use Rattle.kinds.specs.Kinds.{answered};
 ghost use Rattle.fields.specs.Texts.{text_kind, text_end, text_flaw, character};
-ghost use Rattle.fields.specs.Laws.Texts.{text_lawful, text_in_field};
+ghost use Rattle.fields.specs.Laws.Texts.{text_lawful};
 
 use crate::whole::expect;
 use faults::{Cause, Misfit};
@@ -68,11 +68,9 @@ impl<'a, const W: usize> FieldKind<'a> for Text<W> {
 
     ghost shown = { λ _ v. v.now };
 
-    ghost shape = { λ _. refl };
+    ghost shape = { λ _ _ _ _ _. refl };
 
     ghost laws = { λ _. text_lawful W };
-
-    ghost within = { λ _. text_in_field W (λ v. v.now) };
 
     fn columns(&self) -> usize
         ensures { result ≡ W }

@@ -1,5 +1,5 @@
 -- The scan for the first byte that is not admitted, and what comes after it.
-use Rattle.std.proofs.Common.{◌≡◌, ℕ, ◌+◌, ◌<◌, Bool, true, false, cond, List, [], ◌∷◌, length, Some, None, Ok, Err, Option, Result, refl, arith}
+use Rattle.std.proofs.Common.{◌≡◌, ℕ, suc, ◌+◌, ◌^◌, ◌<◌, ◌≤◌, Bool, true, false, cond, List, [], ◌∷◌, length, slice_index, Some, None, Ok, Err, Option, Result, refl, arith}
 use Rattle.faults.specs.declared.Cause.TheVariants.{WrongByte}
 use Rattle.faults.specs.declared.Misfit.{Misfit}
 use Rattle.kinds.specs.Kinds.{Kind, AllFrom, refused_from, fault, answered}
@@ -22,6 +22,13 @@ module _ (admits : ℕ → ℕ → Bool) where
         | true ↦ λ e. let r = then_later (n + 1) bs later u e in ((refl, r.0), r.1)
         | false ↦ λ e. absurd cc
       ] h
+
+-- two tests that agree on the places and the bytes of a field find the same
+pub refused_alike : (p q : ℕ → ℕ → Bool) (w i : ℕ) (bs : List ℕ) (later : Option Misfit) → i + length bs ≤ w → ((k : ℕ) → k < length bs → slice_index bs k < 2 ^ 8) → ((place b : ℕ) → place < w → b < 2 ^ 8 → p place b ≡ q place b) → refused_from p i bs later ≡ refused_from q i bs later
+refused_alike p q w i [] later fits bytes same = refl
+refused_alike p q w i (b ∷ bs) later fits bytes same =
+    let rest = refused_alike p q w (i + 1) bs later (omega arith) (λ k h. bytes (suc k) (omega arith)) same in
+    rw (same i b (omega arith) (bytes 0 (omega arith)), rest) refl
 
 -- the same of a field
 module _ (k : Kind) (bs : List ℕ) where

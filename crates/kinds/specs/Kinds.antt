@@ -39,11 +39,11 @@ pub record Lawful (k : Kind) : Type 0 where
   pub value_admitted : (bs : List ℕ) → length bs ≡ k.width → fault k bs ≡ None → k.wrong (k.value bs) ≡ None
   pub written_back : (bs : List ℕ) → length bs ≡ k.width → fault k bs ≡ None → k.spell (k.value bs) ≡ bs
 
--- what is wrong stands in the field, or right behind it: with a field as a whole, once every byte is admitted, and with a
--- form's value, where `shown` says how a value of the program stands for one of the kind
-pub record InField (k : Kind) {V : Type 0} (shown : V → k.Value) : Type 0 where
-  pub flaw_within : (bs : List ℕ) → length bs ≡ k.width → AllFrom k.admits 0 bs → IfSome (k.flaw bs) (λ m. m.offset ≤ k.width)
-  pub wrong_within : (v : V) → IfSome (k.wrong (shown v)) (λ m. m.offset ≤ k.width)
+-- no law of a kind, but so of each of the eight: what is wrong with a field as a whole, and what a form's value is refused
+-- for, stands in the field or right behind it
+pub record InField (k : Kind) : Type 0 where
+  pub flaw_within : (bs : List ℕ) → length bs ≡ k.width → IfSome (k.flaw bs) (λ m. m.offset ≤ k.width)
+  pub wrong_within : (v : k.Value) → IfSome (k.wrong v) (λ m. m.offset ≤ k.width)
 
 -- a misfit at its line and column
 abbrev pub placed_at : Place → Option Misfit → Option Fault

@@ -1,10 +1,11 @@
 //! What every kind of field gives, and what is written once for all of them: no kind knows where it stands.
-ghost use Rattle.std.specs.Prelude.{◌≡◌, ◌+◌, ◌^◌, ◌<◌, ◌≤◌, length, None, IfErr};
-ghost use Rattle.kinds.specs.Kinds.{Kind, Lawful, InField, AllFrom, fault, answered, placed_at, map_ok};
+ghost use Rattle.std.specs.Prelude.{◌≡◌, ℕ, ◌+◌, ◌^◌, ◌<◌, ◌≤◌, length, None, IfErr};
+ghost use Rattle.kinds.specs.Kinds.{Kind, Lawful, AllFrom, refused_from, fault, answered, placed_at, map_ok};
 
 use crate::shape::{Shape, scan};
 use faults::{Fault, Misfit, Place};
 
+// A misfit stands in its field or right behind it (`within`), so that it can be placed, once for all kinds.
 // `width` stays a clause: a kind may leave its width to its value, and an array of a trait's constant number of bytes has no
 // type. `room` stays one as in `Layout`.
 /// A kind of field: what may stand in it, what it means, and how a value is spelled.
@@ -24,11 +25,13 @@ pub trait FieldKind<'a>: Shape {
     fn value(&self, field: &'a [u8]) -> Result<Self::Value, Misfit>
         requires width { length field.now ≡ (kind self.now).width }
         requires admitted { AllFrom (kind self.now).admits 0 field.now }
-        ensures { map_ok (shown self.now) result ≡ answered ((kind self.now).flaw field.now) ((kind self.now).value field.now) };
+        ensures answer { map_ok (shown self.now) result ≡ answered ((kind self.now).flaw field.now) ((kind self.now).value field.now) }
+        ensures within { IfErr result (λ m. m.offset ≤ (kind self.now).width) };
 
     /// What a form's value is refused for.
     fn judge(&self, value: Self::Value) -> Result<(), Misfit>
-        ensures { result ≡ answered ((kind self.now).wrong (shown self.now value)) tt };
+        ensures answer { result ≡ answered ((kind self.now).wrong (shown self.now value)) tt }
+        ensures within { IfErr result (λ m. m.offset ≤ (kind self.now).width) };
 
     /// Writes a value that is refused for nothing into the field's columns.
     fn spell(&self, value: Self::Value, out: &mut [u8])
@@ -36,13 +39,19 @@ pub trait FieldKind<'a>: Shape {
         requires admitted { (kind self.now).wrong (shown self.now value) ≡ None }
         ensures { out.new ≡ (kind self.now).spell (shown self.now value) };
 
-    // the bytes that may stand are those of the kind
-    ghost shape: { (s : Self) → (kind s).admits ≡ Self.admits s };
+    // the bytes that may stand in the field are those of the kind
+    ghost shape: { (s : Self) (place byte : ℕ) → place < (kind s).width → byte < 2 ^ 8 → (kind s).admits place byte ≡ Self.admits s place byte };
 
     ghost laws: { (s : Self) → Lawful (kind s) };
+}
 
-    // so that a misfit can be placed, once for all kinds
-    ghost within: { (s : Self) → InField (kind s) (shown s) };
+// The first byte of a field that may not stand where it stands, wherever the field stands.
+fn first_refused<'a, K: FieldKind<'a>>(kind: &K, field: &'a [u8]) -> Result<(), Misfit>
+    requires { length field.now ≡ (K.kind kind.now).width }
+    ensures answer { result ≡ answered (refused_from (K.kind kind.now).admits 0 field.now None) tt }
+    ensures within { IfErr result (λ m. m.offset < length field.now) }
+{
+    scan(kind, field, 0)
 }
 
 // The value of a field, or what is wrong with it, wherever it stands.
@@ -52,8 +61,17 @@ fn value_of<'a, K: FieldKind<'a>>(kind: &K, field: &'a [u8]) -> Result<K::Value,
     ensures answer { map_ok (K.shown kind.now) result ≡ answered (fault (K.kind kind.now) field.now) ((K.kind kind.now).value field.now) }
     ensures within { IfErr result (λ m. m.offset ≤ (K.kind kind.now).width) }
 {
-    scan(kind, field, 0)?;
+    first_refused(kind, field)?;
     kind.value(field)
+}
+
+/// The first byte of a field that may not stand where it stands.
+pub fn scan_field<'a, K: FieldKind<'a>>(kind: &K, field: &'a [u8], at: Place) -> Result<(), Fault>
+    requires width { length field.now ≡ (K.kind kind.now).width }
+    requires room { at.column + (K.kind kind.now).width < 2 ^ 64 }
+    ensures { result ≡ answered (placed_at at (refused_from (K.kind kind.now).admits 0 field.now None)) tt }
+{
+    first_refused(kind, field).map_err(|misfit| at.fault(misfit))
 }
 
 /// The value of a field, or what is wrong with it.

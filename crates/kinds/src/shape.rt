@@ -1,10 +1,10 @@
-//! How wide a field is, which bytes may stand where, and the one scan that finds the first that may not.
+//! How wide a field is, unless its kind leaves that to the value, which bytes may stand where, and the one scan that finds the first that may not.
 ghost use Rattle.std.specs.Prelude.{◌≡◌, ℕ, ◌+◌, ◌^◌, ◌<◌, Bool, length, None, IfErr};
 ghost use Rattle.kinds.specs.Kinds.{refused_from, answered};
 
 use faults::{Cause, Misfit};
 
-/// How wide a field is, and which byte may stand where.
+/// How wide a field is, unless its kind leaves that to the value (`columns`), and which byte may stand where.
 pub trait Shape {
     const WIDTH: usize;
 

@@ -112,8 +112,8 @@ within_wrong v = elim (cases_Bool (nat_lt 9 (length v))) [
   | inr e ↦ let fits = ltb-false 9 (length v) e in rw e (within_refused 9 (λ _ b. account_byte b) (9 - length v) v _ (omega arith) (within_flaw (9 - length v) v (omega arith)))
 ]
 
-pub account_in_field : {V : Type 0} (shown : V → List ℕ) → InField account_kind shown
-account_in_field shown = record {
-  flaw_within = λ bs w _. within_flaw (indent bs) (drop (indent bs) bs) (omega (arith, value_length bs w, prefix_len-le-length is_blank bs));
-  wrong_within = λ v. within_wrong (shown v);
+pub account_in_field : InField account_kind
+account_in_field = record {
+  flaw_within = λ bs w. within_flaw (indent bs) (drop (indent bs) bs) (omega (arith, value_length bs w, prefix_len-le-length is_blank bs));
+  wrong_within = within_wrong;
 }

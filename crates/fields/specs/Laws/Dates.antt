@@ -71,10 +71,10 @@ bsb_lawful =
       written_back = bsb_back;
     }
 
-pub bsb_in_field : {V : Type 0} (shown : V → ℕ) → InField bsb_kind shown
-bsb_in_field shown = record {
-  flaw_within = λ bs long _. tt;
-  wrong_within = λ v. unless_within 7 (nat_lt (shown v) 1000000) TooWide;
+pub bsb_in_field : InField bsb_kind
+bsb_in_field = record {
+  flaw_within = λ bs long. tt;
+  wrong_within = λ n. unless_within 7 (nat_lt n 1000000) TooWide;
 }
 
 -- the three parts of a date
@@ -146,8 +146,8 @@ date_lawful =
       written_back = λ bs long h. date_back bs long (none_refused date_kind.admits 0 bs _ h).0;
     }
 
-pub date_in_field : {V : Type 0} (shown : V → Date) → InField date_kind shown
-date_in_field shown = record {
-  flaw_within = λ bs long _. unless_within 6 _ NoSuchValue;
-  wrong_within = λ v. let d = shown v in within_cond 6 (nat_le 2000 d.year && nat_le d.year 2099) _ _ (unless_within 6 (a_day d) NoSuchValue) (omega arith);
+pub date_in_field : InField date_kind
+date_in_field = record {
+  flaw_within = λ bs long. unless_within 6 _ NoSuchValue;
+  wrong_within = λ d. within_cond 6 (nat_le 2000 d.year && nat_le d.year 2099) _ _ (unless_within 6 (a_day d) NoSuchValue) (omega arith);
 }

@@ -18,8 +18,8 @@ fixed_lawful given = record {
       ext_get_or 0 given bs (sym w) (λ j less. sym (eqb-true _ _ (and_parts (nat_lt j (length given)) _ (rw zero-add at (all_at _ 0 bs j (omega arith) all))).1));
 }
 
-pub fixed_in_field : (given : List ℕ) {V : Type 0} (shown : V → Unit {0}) → InField (fixed_kind given) shown
-fixed_in_field given shown = record {
-  flaw_within = λ bs w _. tt;
+pub fixed_in_field : (given : List ℕ) → InField (fixed_kind given)
+fixed_in_field given = record {
+  flaw_within = λ bs w. tt;
   wrong_within = λ v. tt;
 }

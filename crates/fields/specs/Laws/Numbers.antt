@@ -123,10 +123,10 @@ numeral_lawful w test cause =
       written_back = λ bs long h. digits_back w bs long (none_refused _ 0 bs _ h).0;
     }
 
-pub numeral_in_field : (w : ℕ) (test : ℕ → Bool) (cause : Cause) {V : Type 0} (shown : V → ℕ) → InField (numeral w test cause) shown
-numeral_in_field w test cause shown = record {
-  flaw_within = λ bs long _. unless_within w _ cause;
-  wrong_within = λ v. let n = shown v in within_cond w (nat_lt n (10 ^ w)) _ _ (unless_within w (test n) cause) (omega arith);
+pub numeral_in_field : (w : ℕ) (test : ℕ → Bool) (cause : Cause) → InField (numeral w test cause)
+numeral_in_field w test cause = record {
+  flaw_within = λ bs long. unless_within w _ cause;
+  wrong_within = λ n. within_cond w (nat_lt n (10 ^ w)) _ _ (unless_within w (test n) cause) (omega arith);
 }
 
 pub number_lawful : (w least : ℕ) → Lawful (number_kind w least)

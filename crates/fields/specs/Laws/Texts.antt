@@ -28,14 +28,14 @@ mark_lawful = record {
   written_back = λ bs w h. sym (single bs w);
 }
 
-pub mark_in_field : {V : Type 0} (shown : V → ℕ) → InField mark_kind shown
-mark_in_field shown = record {
-  flaw_within = λ bs w _. tt;
-  wrong_within = λ v. within_cond 1 (member (shown v) (codes " NWXY")) None _ tt (omega arith);
+pub mark_in_field : InField mark_kind
+mark_in_field = record {
+  flaw_within = λ bs w. tt;
+  wrong_within = λ b. within_cond 1 (member b (codes " NWXY")) None _ tt (omega arith);
 }
 
-within_flaw : (w : ℕ) (bs : List ℕ) (later : Option Misfit) → Within w later → Within w (text_flaw bs later)
-within_flaw w bs later h = within_cond w (text_end bs (length bs) == 0) (Some (whole Empty)) _ (omega arith) (within_cond w (is_blank (slice_index bs 0)) (Some (whole StrayBlank)) later (omega arith) h)
+flaw_within : (w : ℕ) (bs : List ℕ) (later : Option Misfit) → Within w later → Within w (text_flaw bs later)
+flaw_within w bs later h = within_cond w (text_end bs (length bs) == 0) (Some (whole Empty)) _ (omega arith) (within_cond w (is_blank (slice_index bs 0)) (Some (whole StrayBlank)) later (omega arith) h)
 
 -- what a text's flaw is made of
 pub flaw_parts : (bs : List ℕ) (later : Option Misfit) → text_flaw bs later ≡ None → (0 < text_end bs (length bs)) × (is_blank (slice_index bs 0) ≡ false) × (later ≡ None)
@@ -131,11 +131,11 @@ text_lawful w = record {
 within_wrong : (w : ℕ) (v : List ℕ) → Within w ((text_kind w).wrong v)
 within_wrong w v = elim (cases_Bool (nat_lt w (length v))) [
   | inl e ↦ rw e (omega arith)
-  | inr e ↦ rw e (let fits = ltb-false w (length v) e in within_refused w (λ _ b. character b) 0 v _ (omega arith) (within_flaw w v (ends_blank v) (within_cond w (is_blank (slice_index v (length v - 1))) (Some (record { cause = StrayBlank; offset = length v - 1 })) None (omega arith) tt)))
+  | inr e ↦ rw e (let fits = ltb-false w (length v) e in within_refused w (λ _ b. character b) 0 v _ (omega arith) (flaw_within w v (ends_blank v) (within_cond w (is_blank (slice_index v (length v - 1))) (Some (record { cause = StrayBlank; offset = length v - 1 })) None (omega arith) tt)))
 ]
 
-pub text_in_field : (w : ℕ) {V : Type 0} (shown : V → List ℕ) → InField (text_kind w) shown
-text_in_field w shown = record {
-  flaw_within = λ bs wide _. within_flaw w bs None tt;
-  wrong_within = λ v. within_wrong w (shown v);
+pub text_in_field : (w : ℕ) → InField (text_kind w)
+text_in_field w = record {
+  flaw_within = λ bs wide. flaw_within w bs None tt;
+  wrong_within = within_wrong w;
 }
