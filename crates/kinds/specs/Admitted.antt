@@ -1,7 +1,8 @@
 -- Bytes that are all admitted, and the scan that finds none refused.
-use Rattle.std.specs.Prelude.{◌≡◌, ℕ, zero, suc, ◌+◌, ◌<◌, ◌≤◌, Bool, true, false, cond, List, [], ◌∷◌, ◌++◌, length, take, drop, replicate, IfSome, Some, None, Option, slice_index, refl}
-use Rattle.std.proofs.Common.{sym, subst, add-zero, arith, take-append-drop}
+use Rattle.std.specs.Prelude.{nat_lt, ◌≡◌, ℕ, zero, suc, ◌+◌, ◌<◌, ◌≤◌, Bool, true, false, cond, List, [], ◌∷◌, ◌++◌, length, take, drop, replicate, IfSome, Some, None, Option, slice_index, refl}
+use Rattle.std.proofs.Common.{inl, inr, sym, subst, add-zero, arith, take-append-drop}
 use Rattle.std.specs.List.{AllByRecursion}
+use Rattle.std.proofs.lemmas.Bool.{cases_Bool, ltb-false}
 use Rattle.std.proofs.lemmas.List.{length-take-le}
 use Rattle.faults.specs.declared.Cause.TheVariants.{WrongByte}
 use Rattle.faults.specs.declared.Misfit.{Misfit}
@@ -94,6 +95,10 @@ Within w o = IfSome o (λ m. m.offset ≤ w)
 pub within_cond : (w : ℕ) (t : Bool) (a b : Option Misfit) → Within w a → Within w b → Within w (cond t a b)
 within_cond w true a b ha hb = ha
 within_cond w false a b ha hb = hb
+
+-- a value that is too wide, and else what comes then
+pub within_wide : (w n : ℕ) (m : Misfit) (later : Option Misfit) → m.offset ≤ w → (n ≤ w → Within w later) → Within w (cond (nat_lt w n) (Some m) later)
+within_wide w n m later low h = elim (cases_Bool (nat_lt w n)) [ inl e ↦ rw e low | inr e ↦ rw e (h (ltb-false w n e)) ]
 
 pub within_refused : (w : ℕ) (admits : ℕ → ℕ → Bool) (i : ℕ) (bs : List ℕ) (later : Option Misfit) → i + length bs ≤ w → Within w later → Within w (refused_from admits i bs later)
 within_refused w admits i [] later fits h = h

@@ -1,4 +1,4 @@
-//! How wide a field is, unless its kind leaves that to the value, which bytes may stand where, and the one scan that finds the first that may not.
+//! The width of a field, the bytes that may stand in it, and the one scan that finds the first that may not.
 ghost use Rattle.std.specs.Prelude.{◌≡◌, ℕ, ◌+◌, ◌^◌, ◌<◌, Bool, length, None, IfErr};
 ghost use Rattle.kinds.specs.Kinds.{refused_from, answered};
 

@@ -7,7 +7,7 @@ use Rattle.std.proofs.lemmas.List.{length-append, length-replicate, length-drop,
 use Rattle.std.proofs.lemmas.List.Sums.{prefix_len-le-length}
 use Rattle.std.proofs.lemmas.Bool.{cases_Bool, eqb-true, ltb-false, le-ltb, cond-true, cond-false}
 use Rattle.kinds.specs.Kinds.{Lawful, InField, fault}
-use Rattle.kinds.specs.Admitted.{Within, within_cond, within_refused, Passes, all_pass, passed_all, all_replicate, unless_true, unless_false}
+use Rattle.kinds.specs.Admitted.{Within, within_cond, within_refused, within_wide, Passes, all_pass, passed_all, all_replicate, unless_true, unless_false}
 use Rattle.fields.specs.Texts.{account_kind, is_blank, account_byte, positive, first_blank, account_flaw, indent}
 
 -- no blank is found where there is none, wherever the account stands
@@ -107,10 +107,7 @@ account_lawful = record {
 }
 
 within_wrong : (v : List ℕ) → Within 9 (account_kind.wrong v)
-within_wrong v = elim (cases_Bool (nat_lt 9 (length v))) [
-  | inl e ↦ rw e (omega arith)
-  | inr e ↦ let fits = ltb-false 9 (length v) e in rw e (within_refused 9 (λ _ b. account_byte b) (9 - length v) v _ (omega arith) (within_flaw (9 - length v) v (omega arith)))
-]
+within_wrong v = within_wide 9 (length v) _ _ (omega arith) (λ fits. within_refused 9 (λ _ b. account_byte b) (9 - length v) v _ (omega arith) (within_flaw (9 - length v) v (omega arith)))
 
 pub account_in_field : InField account_kind
 account_in_field = record {

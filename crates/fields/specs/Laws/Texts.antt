@@ -1,15 +1,15 @@
 -- The laws of the kinds of characters.
 use Rattle.std.specs.Prelude.{◌≡◌, ℕ, ◌+◌, ◌-◌, ◌<◌, ◌≤◌, false, Some, List, [], ◌∷◌, ◌++◌, length, take, drop, replicate, None, codes, Option, ◌==◌, nat_lt, slice_index, refl}
-use Rattle.std.proofs.Common.{sym, ap, subst, inl, inr, ◌∙◌, arith}
+use Rattle.std.proofs.Common.{sym, ap, subst, ◌∙◌, arith}
 use Rattle.std.specs.List.{AllByRecursion}
 use Rattle.std.proofs.ByRecursion.{All-append, All-take}
 use Rattle.std.proofs.lemmas.List.{length-append, length-replicate, length-take-le, take_at, take_all, take-append-drop, get_or_append_left, get_or-take}
-use Rattle.std.proofs.lemmas.Bool.{cases_Bool, ne_eqb, eqb-false, ltb-false, le-ltb, cond-false}
+use Rattle.std.proofs.lemmas.Bool.{ne_eqb, eqb-false, ltb-false, le-ltb, cond-false}
 use Rattle.faults.specs.declared.Cause.TheVariants.{Empty, StrayBlank}
 use Rattle.fields.specs.Numbers.{whole}
 use Rattle.faults.specs.declared.Misfit.{Misfit}
 use Rattle.kinds.specs.Kinds.{Lawful, InField, fault}
-use Rattle.kinds.specs.Admitted.{Within, within_cond, within_refused, Passes, all_pass, passed_all, all_replicate, unless_true}
+use Rattle.kinds.specs.Admitted.{Within, within_cond, within_refused, within_wide, Passes, all_pass, passed_all, all_replicate, unless_true}
 use Rattle.fields.specs.Laws.TextEnds.{end_stops, end_le, end_again, last_stands, blanks_follow, end_front, end_filled}
 use Rattle.fields.specs.Texts.{mark_kind, text_kind, member, ends_blank, is_blank, character, text_end, text_of, text_flaw}
 
@@ -129,10 +129,9 @@ text_lawful w = record {
 }
 
 within_wrong : (w : ℕ) (v : List ℕ) → Within w ((text_kind w).wrong v)
-within_wrong w v = elim (cases_Bool (nat_lt w (length v))) [
-  | inl e ↦ rw e (omega arith)
-  | inr e ↦ rw e (let fits = ltb-false w (length v) e in within_refused w (λ _ b. character b) 0 v _ (omega arith) (flaw_within w v (ends_blank v) (within_cond w (is_blank (slice_index v (length v - 1))) (Some (record { cause = StrayBlank; offset = length v - 1 })) None (omega arith) tt)))
-]
+within_wrong w v =
+    let last = within_cond w (is_blank (slice_index v (length v - 1))) (Some (record { cause = StrayBlank; offset = length v - 1 })) None in
+    within_wide w (length v) _ _ (omega arith) (λ fits. within_refused w (λ _ b. character b) 0 v _ (omega arith) (flaw_within w v (ends_blank v) (last (omega arith) tt)))
 
 pub text_in_field : (w : ℕ) → InField (text_kind w)
 text_in_field w = record {
