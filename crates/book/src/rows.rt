@@ -1,6 +1,7 @@
 //! How a book is made, filled and read.
 ghost use Rattle.std.specs.Prelude.{◌≡◌, ◌≤◌, [], length, is_ok, if◌then◌else◌};
 ghost use Rattle.kinds.specs.Kinds.{answered};
+ghost use Rattle.book.specs.Added.{empty_book, added};
 ghost use Rattle.book.specs.Books.{row_fault, above_last, with_row, FoundAt};
 ghost use Rattle.book.specs.Search.{Climbs};
 
@@ -18,8 +19,10 @@ impl<V> Numbered for Row<V> {
 
 impl<'a, V: Drop> Book<'a, V> {
     /// A book that holds no rows, and has room for as many as the slice.
+    #[tactic(auto, using(crate::specs::Held::same))]
     pub fn new(rows: &'a mut [Row<V>]) -> Book<'a, V>
-        ensures { result.held ≡ record { rows = []; room = length rows.old } }
+        ensures held { result.held ≡ record { rows = []; room = length rows.old } }
+        ensures whole { result ≡ empty_book (length rows.old) }
     {
         Book { rows, used: 0 }
     }
@@ -50,6 +53,7 @@ impl<'a, V: Drop> Book<'a, V> {
     pub fn add(&mut self, row: Row<V>) -> Result<(), Fault>
         ensures answer { result ≡ answered (row_fault self.old.held row.number) tt }
         ensures after { self.new.held ≡ (if is_ok result then with_row self.old.held row else self.old.held) }
+        ensures whole { self.new ≡ (if is_ok result then added self.old row else self.old) }
     {
         expect_above(self.rows(), row.number)?;
         if self.used >= self.rows.len() {

@@ -2,11 +2,11 @@
 ghost use Rattle.std.specs.Prelude.{◌≡◌, ◌==◌, not, position, ◌+◌, ◌^◌, ◌<◌, ◌≤◌, length, refl, IfErr};
 ghost use Rattle.kinds.specs.Kinds.{answered};
 ghost use Rattle.fields.specs.Texts.{account_kind, account_byte, account_flaw, positive, indent};
-ghost use Rattle.fields.specs.Laws.Accounts.{account_lawful};
+ghost use Rattle.fields.specs.Laws.Accounts.{account_lawful, account_in_field};
 
 use crate::whole::expect;
 use faults::{Cause, Misfit};
-use kinds::kind::FieldKind;
+use kinds::kind::{ConstantKind, FieldKind};
 use kinds::shape::{Shape, scan};
 
 /// An account of nine columns, with at least one digit 1 to 9; its value is the bytes after the blanks.
@@ -103,4 +103,10 @@ impl<'a> FieldKind<'a> for Account {
         blanks.fill(b' ');
         account.copy_from_slice(value);
     }
+}
+
+impl<'a> ConstantKind<'a> for Account {
+    ghost shape = { λ _. (refl, refl) };
+
+    ghost in_field = { λ _. account_in_field };
 }

@@ -1,12 +1,12 @@
 //! A bank, state and branch: three digits, a hyphen, three digits.
 ghost use Rattle.std.specs.Prelude.{◌≡◌, refl};
-ghost use Rattle.fields.specs.Laws.Dates.{bsb_lawful};
+ghost use Rattle.fields.specs.Laws.Dates.{bsb_lawful, bsb_in_field};
 ghost use Rattle.fields.specs.Numbers.{bsb_kind};
 
 use crate::number::{is_digit, number_of, spell_digits};
 use crate::whole::expect;
 use faults::{Cause, Misfit};
-use kinds::kind::FieldKind;
+use kinds::kind::{ConstantKind, FieldKind};
 use kinds::shape::Shape;
 
 /// A BSB, whose value is the number of its six digits.
@@ -59,4 +59,10 @@ impl<'a> FieldKind<'a> for Bsb {
         hyphen.fill(b'-');
         spell_digits(value % 1000, branch);
     }
+}
+
+impl<'a> ConstantKind<'a> for Bsb {
+    ghost shape = { λ _. (refl, refl) };
+
+    ghost in_field = { λ _. bsb_in_field };
 }

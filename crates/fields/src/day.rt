@@ -1,13 +1,13 @@
 //! A day of the years 2000 to 2099, as DDMMYY.
 ghost use Rattle.std.specs.Prelude.{◌≡◌, length, refl};
-ghost use Rattle.fields.specs.Laws.Dates.{date_lawful};
+ghost use Rattle.fields.specs.Laws.Dates.{date_lawful, date_in_field};
 ghost use Rattle.fields.specs.Numbers.{date_kind, date_of, a_day, days_in, leap, digit, AllDigits};
 
 use crate::date::Date;
 use crate::number::{is_digit, number_of, spell_digits};
 use crate::whole::expect;
 use faults::{Cause, Misfit};
-use kinds::kind::FieldKind;
+use kinds::kind::{ConstantKind, FieldKind};
 use kinds::shape::Shape;
 
 fn is_leap(year: u64) -> bool
@@ -95,4 +95,10 @@ impl<'a> FieldKind<'a> for Day {
         spell_digits(value.month, &mut out[2..4]);
         spell_digits(value.year - 2000, &mut out[4..6]);
     }
+}
+
+impl<'a> ConstantKind<'a> for Day {
+    ghost shape = { λ _. (refl, refl) };
+
+    ghost in_field = { λ _. date_in_field };
 }

@@ -1,10 +1,10 @@
 //! Bytes that never vary: blanks, a record's type, a code of the format.
 ghost use Rattle.std.specs.Prelude.{◌≡◌, length, refl};
-ghost use Rattle.fields.specs.Laws.Fixed.{fixed_lawful};
+ghost use Rattle.fields.specs.Laws.Fixed.{fixed_lawful, fixed_in_field};
 ghost use Rattle.fields.specs.Texts.{fixed_kind};
 
 use faults::Misfit;
-use kinds::kind::FieldKind;
+use kinds::kind::{ConstantKind, FieldKind};
 use kinds::shape::Shape;
 
 /// Exactly the given bytes.
@@ -54,4 +54,10 @@ impl<'a, const W: usize> FieldKind<'a> for Fixed<W> {
     fn spell(&self, _value: (), out: &mut [u8]) {
         out.copy_from_slice(self.bytes);
     }
+}
+
+impl<'a, const W: usize> ConstantKind<'a> for Fixed<W> {
+    ghost shape = { λ s. (s.filled, refl) };
+
+    ghost in_field = { λ s. fixed_in_field s.bytes.now };
 }

@@ -9,5 +9,7 @@ pub mod day;
 pub mod fixed;
 pub mod mark;
 pub mod number;
+#[cfg(test)]
+mod tests;
 pub mod text;
 mod whole;

@@ -1,11 +1,11 @@
 //! A mark of one column: blank, N for new details, or W, X, Y for tax withheld.
 ghost use Rattle.std.specs.Prelude.{◌≡◌, codes, refl};
 ghost use Rattle.fields.specs.Texts.{mark_kind, member};
-ghost use Rattle.fields.specs.Laws.Texts.{mark_lawful};
+ghost use Rattle.fields.specs.Laws.Texts.{mark_lawful, mark_in_field};
 
 use crate::whole::expect;
 use faults::{Cause, Misfit};
-use kinds::kind::FieldKind;
+use kinds::kind::{ConstantKind, FieldKind};
 use kinds::shape::Shape;
 
 /// A mark of one column, whose value is its byte.
@@ -60,4 +60,10 @@ impl<'a> FieldKind<'a> for Mark {
     fn spell(&self, value: u8, out: &mut [u8]) {
         out[0] = value;
     }
+}
+
+impl<'a> ConstantKind<'a> for Mark {
+    ghost shape = { λ _. (refl, refl) };
+
+    ghost in_field = { λ _. mark_in_field };
 }

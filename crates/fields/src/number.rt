@@ -3,12 +3,12 @@ ghost use Rattle.std.specs.Prelude.{◌≡◌, ⊤, ℕ, ◌^◌, ◌<◌, ◌�
 ghost use Rattle.faults.specs.declared.Cause.{Cause};
 ghost use Rattle.faults.specs.declared.Cause.TheVariants.{Empty, NoSuchValue};
 ghost use Rattle.kinds.specs.Kinds.{answered};
-ghost use Rattle.fields.specs.Laws.Numbers.{numeral_lawful};
+ghost use Rattle.fields.specs.Laws.Numbers.{numeral_lawful, numeral_in_field};
 ghost use Rattle.fields.specs.Numbers.{unless, numeral, in_table, number_of, digits, AllDigits, digit};
 
 use crate::whole::expect;
 use faults::{Cause, Misfit};
-use kinds::kind::FieldKind;
+use kinds::kind::{ConstantKind, FieldKind};
 use kinds::shape::Shape;
 use std::alloc::AllocError;
 
@@ -143,4 +143,10 @@ impl<'a, const W: usize, N: Numbers> FieldKind<'a> for Number<W, N> {
     fn spell(&self, value: u64, out: &mut [u8]) {
         spell_digits(value, out);
     }
+}
+
+impl<'a, const W: usize, N: Numbers> ConstantKind<'a> for Number<W, N> {
+    ghost shape = { λ _. (refl, refl) };
+
+    ghost in_field = { λ _. numeral_in_field W N.takes N.cause };
 }

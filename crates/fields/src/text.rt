@@ -2,11 +2,11 @@
 ghost use Rattle.std.specs.Prelude.{◌≡◌, ◌≤◌, length, None, IfOk, refl};
 ghost use Rattle.kinds.specs.Kinds.{answered};
 ghost use Rattle.fields.specs.Texts.{text_kind, text_end, text_flaw, character};
-ghost use Rattle.fields.specs.Laws.Texts.{text_lawful};
+ghost use Rattle.fields.specs.Laws.Texts.{text_lawful, text_in_field};
 
 use crate::whole::expect;
 use faults::{Cause, Misfit};
-use kinds::kind::FieldKind;
+use kinds::kind::{ConstantKind, FieldKind};
 use kinds::shape::{Shape, scan};
 
 /// A text of `W` columns, whose value is the bytes up to its last that is not blank.
@@ -103,4 +103,10 @@ impl<'a, const W: usize> FieldKind<'a> for Text<W> {
         text.copy_from_slice(value);
         blanks.fill(b' ');
     }
+}
+
+impl<'a, const W: usize> ConstantKind<'a> for Text<W> {
+    ghost shape = { λ _. (refl, refl) };
+
+    ghost in_field = { λ _. text_in_field W };
 }

@@ -6,7 +6,7 @@ ghost use Rattle.std.specs.Prelude.{◌≡◌, is_ok, IfOk, if◌then◌else◌,
 ghost use Rattle.kinds.specs.Kinds.{answered, map_ok};
 ghost use Rattle.kinds.specs.RoundTrips.{SpellsBack, ReadsBack};
 ghost use Rattle.headers.specs.Headers.{header_of, header_form, header_fault, header_value, header_wrong, header_bytes};
-ghost use Rattle.headers.specs.Laws.{header_lawful};
+ghost use Rattle.headers.specs.Laws.{header_lawful, header_in_field};
 
 mod columns;
 
@@ -15,7 +15,7 @@ use faults::Fault;
 use fields::date::Date;
 use kinds::layout::Layout;
 use lines::Line;
-use lines::form::{RecordForm, START, judge_form, read_form, spell_form};
+use lines::form::{ConstantForm, RecordForm, START, judge_form, read_form, spell_form};
 
 /// A header by its values. Texts come without padding.
 #[derive(Clone, Copy, PartialEq, Eq, Debug)]
@@ -57,6 +57,10 @@ impl<'a> RecordForm<'a> for Header<'a> {
     fn judge_together(&self, _line: usize) -> Result<(), Fault> {
         Ok(())
     }
+}
+
+impl<'a> ConstantForm<'a> for Header<'a> {
+    ghost in_field = { header_in_field };
 }
 
 // Each record has these calls under its own name, with its own definitions in their clauses; what they do is written once.

@@ -39,8 +39,8 @@ pub record Lawful (k : Kind) : Type 0 where
   pub value_admitted : (bs : List ℕ) → length bs ≡ k.width → fault k bs ≡ None → k.wrong (k.value bs) ≡ None
   pub written_back : (bs : List ℕ) → length bs ≡ k.width → fault k bs ≡ None → k.spell (k.value bs) ≡ bs
 
--- no law of a kind, but so of each of the eight: what is wrong with a field as a whole, and what a form's value is refused
--- for, stands in the field or right behind it
+-- no law of every kind, but of a `ConstantKind`, as each of the eight is: what is wrong with a field as a whole, and what a
+-- form's value is refused for, stands in the field or right behind it
 pub record InField (k : Kind) : Type 0 where
   pub flaw_within : (bs : List ℕ) → length bs ≡ k.width → IfSome (k.flaw bs) (λ m. m.offset ≤ k.width)
   pub wrong_within : (v : k.Value) → IfSome (k.wrong v) (λ m. m.offset ≤ k.width)

@@ -4,7 +4,7 @@ use Rattle.std.specs.Option.{option_or}
 use Rattle.faults.specs.declared.Fault.{Fault}
 use Rattle.faults.specs.declared.Place.{Place}
 use Rattle.faults.specs.Faults.{right}
-use Rattle.kinds.specs.Kinds.{Kind, Lawful, fault, placed_at}
+use Rattle.kinds.specs.Kinds.{Kind, Lawful, InField, fault, placed_at}
 
 abbrev pub Values : List Kind → Type 0
 Values [] = Unit {0}
@@ -17,6 +17,10 @@ size (k ∷ l) = k.width + size l
 abbrev pub AllLawful : List Kind → Type 0
 AllLawful [] = Unit {0}
 AllLawful (k ∷ l) = Lawful k × AllLawful l
+
+abbrev pub AllInField : List Kind → Type 0
+AllInField [] = Unit {0}
+AllInField (k ∷ l) = InField k × AllInField l
 
 -- the fault of the first faulty field in column order, the first field beginning at the place
 abbrev pub first_fault : List Kind → Place → List ℕ → Option Fault

@@ -1,6 +1,6 @@
 //! What every kind of field gives, and what is written once for all of them: no kind knows where it stands.
 ghost use Rattle.std.specs.Prelude.{◌≡◌, ℕ, ◌+◌, ◌^◌, ◌<◌, ◌≤◌, length, None, IfErr};
-ghost use Rattle.kinds.specs.Kinds.{Kind, Lawful, AllFrom, refused_from, fault, answered, placed_at, map_ok};
+ghost use Rattle.kinds.specs.Kinds.{Kind, Lawful, InField, AllFrom, refused_from, fault, answered, placed_at, map_ok};
 
 use crate::shape::{Shape, scan};
 use faults::{Fault, Misfit, Place};
@@ -43,6 +43,17 @@ pub trait FieldKind<'a>: Shape {
     ghost shape: { (s : Self) (place byte : ℕ) → place < (kind s).width → byte < 2 ^ 8 → (kind s).admits place byte ≡ Self.admits s place byte };
 
     ghost laws: { (s : Self) → Lawful (kind s) };
+}
+
+// Under this bound a clause may say the width as `WIDTH`. And the laws here are of every place and number, and of all bytes and
+// values, where law `shape` and the clauses `within` of `FieldKind` are of those that a call can have.
+/// A kind of field whose width is its type's constant, as each of the eight is.
+pub trait ConstantKind<'a>: FieldKind<'a> {
+    // the width and the bytes that may stand are those of the kind
+    ghost shape: { (s : Self) → ((Self.kind s).width ≡ Self.WIDTH) × ((Self.kind s).admits ≡ Self.admits s) };
+
+    // what is wrong stands in the field, or right behind it
+    ghost in_field: { (s : Self) → InField (Self.kind s) };
 }
 
 // The first byte of a field that may not stand where it stands, wherever the field stands.

@@ -1,9 +1,9 @@
 //! A record as a row of fields, read, judged and spelled by one text for every layout.
 ghost use Rattle.std.specs.Prelude.{◌≡◌, ◌+◌, ◌^◌, ◌<◌, List, [], ◌∷◌, length, OnOk};
 ghost use Rattle.kinds.specs.Kinds.{Kind, answered, map_ok};
-ghost use Rattle.kinds.specs.Layouts.{Values, size, AllLawful, first_fault, values, form_fault, spelled};
+ghost use Rattle.kinds.specs.Layouts.{Values, size, AllLawful, AllInField, first_fault, values, form_fault, spelled};
 
-use crate::kind::{FieldKind, judge_field, take_field};
+use crate::kind::{ConstantKind, FieldKind, judge_field, take_field};
 use faults::{Fault, Place};
 
 // `room` stays with each call: a place is any line and column, and a bound in its type would be asked for where one is made.
@@ -30,6 +30,12 @@ pub trait Layout<'a> {
         ensures after { OnOk result (out.new ≡ spelled (kinds self.now) (shown self.now values)) };
 
     ghost laws: { (s : Self) → AllLawful (kinds s) };
+}
+
+/// A row of kinds of which each keeps `InField`, as kinds of constant width do.
+pub trait ConstantLayout<'a>: Layout<'a> {
+    // what is wrong with each field stands in it, or right behind it
+    ghost in_field: { (s : Self) → AllInField (Self.kinds s) };
 }
 
 impl<'a> Layout<'a> for () {
@@ -74,4 +80,12 @@ impl<'a, K: FieldKind<'a>, L: Layout<'a>> Layout<'a> for (K, L) {
         self.0.spell(values.0, field);
         self.1.spell(values.1, at.right(width), rest)
     }
+}
+
+impl<'a> ConstantLayout<'a> for () {
+    ghost in_field = { λ _. tt };
+}
+
+impl<'a, K: ConstantKind<'a>, L: ConstantLayout<'a>> ConstantLayout<'a> for (K, L) {
+    ghost in_field = { λ s. (K.in_field s.0, L.in_field s.1) };
 }

@@ -5,4 +5,5 @@
 
 pub mod kind;
 pub mod layout;
+pub mod own;
 pub mod shape;

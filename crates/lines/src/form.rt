@@ -1,7 +1,7 @@
 //! A record by its values, and what is written once for all records: reading, judging and spelling one.
 ghost use Rattle.std.specs.Prelude.{◌≡◌, is_ok, IfOk, if◌then◌else◌, OnOk};
 ghost use Rattle.kinds.specs.Kinds.{answered, map_ok};
-ghost use Rattle.kinds.specs.Layouts.{start, first_fault, form_fault};
+ghost use Rattle.kinds.specs.Layouts.{AllInField, start, first_fault, form_fault};
 ghost use Rattle.kinds.specs.Forms.{Form, LawfulForm, record_value, record_fault, record_wrong, record_bytes};
 ghost use Rattle.kinds.specs.RoundTrips.{SpellsBack, ReadsBack};
 
@@ -33,6 +33,12 @@ pub trait RecordForm<'a>: Copy {
         ensures { result ≡ answered (form.flaw line (shown self.now)) tt };
 
     ghost laws: { LawfulForm form };
+}
+
+/// A record each of whose kinds keeps `InField`, as those of a header, a payment and a trailer do.
+pub trait ConstantForm<'a>: RecordForm<'a> {
+    // what is wrong with each field stands in it, or right behind it
+    ghost in_field: { AllInField Self.form.row };
 }
 
 /// The form that the columns of a line say, or the first fault.

@@ -6,7 +6,7 @@ ghost use Rattle.std.specs.Prelude.{◌≡◌, is_ok, IfOk, if◌then◌else◌,
 ghost use Rattle.kinds.specs.Kinds.{answered, map_ok};
 ghost use Rattle.kinds.specs.RoundTrips.{SpellsBack, ReadsBack};
 ghost use Rattle.payments.specs.Payments.{payment_of, payment_form, payment_fault, payment_value, payment_wrong, payment_bytes, tax_fault};
-ghost use Rattle.payments.specs.Laws.{payment_lawful};
+ghost use Rattle.payments.specs.Laws.{payment_lawful, payment_in_field};
 
 mod columns;
 
@@ -14,7 +14,7 @@ use crate::columns::DETAIL;
 use faults::{Cause, Fault};
 use kinds::layout::Layout;
 use lines::Line;
-use lines::form::{RecordForm, START, judge_form, read_form, spell_form};
+use lines::form::{ConstantForm, RecordForm, START, judge_form, read_form, spell_form};
 
 /// A payment by its values. Texts and accounts come without padding.
 // Mark and code are numbers and no enums: a form may give any, and what is none of a kind's is refused with its column.
@@ -83,6 +83,10 @@ impl<'a> RecordForm<'a> for Payment<'a> {
             _ => Err(Cause::TaxUnmarked.at(line, 113)),
         }
     }
+}
+
+impl<'a> ConstantForm<'a> for Payment<'a> {
+    ghost in_field = { payment_in_field };
 }
 
 // Each record has these calls under its own name, with its own definitions in their clauses; what they do is written once.

@@ -6,7 +6,7 @@ ghost use Rattle.std.specs.Prelude.{◌≡◌, is_ok, IfOk, if◌then◌else◌,
 ghost use Rattle.kinds.specs.Kinds.{answered};
 ghost use Rattle.kinds.specs.RoundTrips.{SpellsBack, ReadsBack};
 ghost use Rattle.trailers.specs.Trailers.{trailer_form, trailer_fault, trailer_value, trailer_wrong, trailer_bytes};
-ghost use Rattle.trailers.specs.Laws.{trailer_lawful};
+ghost use Rattle.trailers.specs.Laws.{trailer_lawful, trailer_in_field};
 
 mod columns;
 
@@ -14,7 +14,7 @@ use crate::columns::TRAILER;
 use faults::Fault;
 use kinds::layout::Layout;
 use lines::Line;
-use lines::form::{RecordForm, START, read_form, spell_form};
+use lines::form::{ConstantForm, RecordForm, START, read_form, spell_form};
 
 /// A trailer by its values: the totals in cents, and the number of details.
 #[derive(Clone, Copy, PartialEq, Eq, Debug)]
@@ -51,6 +51,10 @@ impl<'a> RecordForm<'a> for Trailer {
     fn judge_together(&self, _line: usize) -> Result<(), Fault> {
         Ok(())
     }
+}
+
+impl<'a> ConstantForm<'a> for Trailer {
+    ghost in_field = { trailer_in_field };
 }
 
 // Each record has these calls under its own name, with its own definitions in their clauses; what they do is written once.

@@ -131,3 +131,6 @@ numeral_in_field w test cause = record {
 
 pub number_lawful : (w least : ℕ) → Lawful (number_kind w least)
 number_lawful w least = numeral_lawful w (nat_le least) Empty
+
+pub number_in_field : (w least : ℕ) → InField (number_kind w least)
+number_in_field w least = numeral_in_field w (nat_le least) Empty
