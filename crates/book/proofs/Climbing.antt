@@ -8,7 +8,7 @@ use Rattle.std.proofs.lemmas.List.Sums.{prefix_len_passes, prefix_len_stops}
 use Rattle.book.specs.declared.book.Row.{Row}
 use Rattle.book.specs.Search.{first_not_below}
 use Rattle.book.specs.Books.{has_number}
-pub use Rattle.book.specs.Climbing.{key_of, at_last, rises_climbing, climbs_on}
+pub use Rattle.book.specs.Laws.{key_of, at_last, rises_climbing, climbs_on}
 
 module _ {V : Type 0} where
   -- the place that the search gives, where the row there has another number, or there is none

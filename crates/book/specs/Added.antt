@@ -1,19 +1,11 @@
 -- A new book, and a book with one row more.
-use Rattle.std.specs.Prelude.{◌≡◌, ℕ, ◌≤◌, [], length, Some, None, Option, refl}
-use Rattle.std.proofs.Common.{sym, ◌∙◌, arith}
+use Rattle.std.specs.Prelude.{◌≡◌, ℕ, [], Some, None, Option, refl}
+use Rattle.std.proofs.Common.{sym, ◌∙◌}
 use Rattle.faults.specs.declared.Fault.{Fault}
 use Rattle.book.specs.declared.book.Row.{Row}
-use Rattle.book.specs.Search.{Climbs}
-use Rattle.book.specs.Held.{Standing, same}
+use Rattle.book.specs.Held.{Standing}
 use Rattle.book.specs.Books.{row_fault, with_row}
-use Rattle.book.specs.Climbing.{row_within, row_rising}
-
--- no rows fit any room, and climb
-pub none_within : (V : Type 0) (room : ℕ) → length {A = Row V} [] ≤ room
-none_within V room = omega arith
-
-pub none_rising : (V : Type 0) → Climbs {R = Row V} (λ r. r.number) []
-none_rising V i j d before inside = absurd (omega arith)
+use Rattle.book.specs.Laws.{none_within, none_rising, row_within, row_rising, same}
 
 module _ {V : Type 0} where
   -- a book without rows, and with so much room

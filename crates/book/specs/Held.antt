@@ -1,7 +1,6 @@
 -- What a book shows to those who use it.
 use Rattle.std.specs.Prelude.{ℕ, ◌≤◌, List, length, take}
-use Rattle.std.proofs.Common.{◌≡◌, ap, subst, arith, length-take}
-use Rattle.std.proofs.Props.{props}
+use Rattle.std.proofs.Common.{arith, length-take}
 use Rattle.book.specs.declared.book.Row.{Row}
 use Rattle.book.specs.Search.{Climbs}
 
@@ -19,17 +18,3 @@ pub record Standing (V : Type 0) : Type 0 where
 -- the first so many of some rows are no more than these
 pub first_within : {R : Type 0} (n : ℕ) (rows : List R) → length (take n rows) ≤ length rows
 first_within n rows = omega (arith, length-take n rows)
-
-module _ {V : Type 0} where
-  abbrev Facts : Held V → Type 0
-  Facts held = (length held.rows ≤ held.room) × Climbs (λ r. r.number) held.rows
-
-  one_fact : (held : Held V) → IsProp (Facts held)
-  one_fact held = Prim.hlevel props
-
-  abbrev standing : (held : Held V) → Facts held → Standing V
-  standing held facts = record { held = held; within = facts.0; rising = facts.1 }
-
-  -- books that hold the same are the same
-  pub same : (a b : Standing V) → a.held ≡ b.held → a ≡ b
-  same a b e = subst (λ k. (f : Facts k) → a ≡ standing k f) e (λ f. ap (standing a.held) (one_fact a.held (a.within, a.rising) f)) (b.within, b.rising)

@@ -19,7 +19,7 @@ impl<V> Numbered for Row<V> {
 
 impl<'a, V: Drop> Book<'a, V> {
     /// A book that holds no rows, and has room for as many as the slice.
-    #[tactic(auto, using(crate::specs::Held::same))]
+    #[tactic(auto, using(crate::specs::Laws::same))]
     pub fn new(rows: &'a mut [Row<V>]) -> Book<'a, V>
         ensures held { result.held ≡ record { rows = []; room = length rows.old } }
         ensures whole { result ≡ empty_book (length rows.old) }

@@ -1,5 +1,6 @@
--- A row behind the last: numbers that climb go on climbing, and there is room.
-use Rattle.std.proofs.Common.{◌≡◌, ℕ, suc, ◌+◌, ◌-◌, ◌<◌, ◌≤◌, cond, ltb, List, [], ◌∷◌, ◌++◌, length, get_or, Some, None, sym, ap, ◌∙◌, arith, length-append}
+-- No rows, and a row behind the last: their numbers climb, and there is room. And books that hold the same are the same.
+use Rattle.std.proofs.Common.{◌≡◌, ℕ, suc, ◌+◌, ◌-◌, ◌<◌, ◌≤◌, cond, ltb, List, [], ◌∷◌, ◌++◌, length, get_or, Some, None, sym, ap, ◌∙◌, subst, arith, length-append}
+use Rattle.std.proofs.Props.{props}
 use Rattle.std.specs.Prelude.{nat_lt}
 use Rattle.std.specs.List.Sorted.{IsNonDecreasingBy}
 use Rattle.std.proofs.lemmas.List.{get_or_default}
@@ -10,11 +11,18 @@ use Rattle.faults.specs.declared.Cause.TheVariants.{NotRising, BookFull}
 use Rattle.book.specs.declared.book.Row.{Row}
 use Rattle.book.specs.Search.{Climbs}
 use Rattle.book.specs.Books.{above_last, nowhere, row_fault}
-use Rattle.book.specs.Held.{Held}
+use Rattle.book.specs.Held.{Held, Standing}
 use Rattle.kinds.proofs.RoundTrip.{none_first}
 
 room_left : (used room : ℕ) → cond (nat_lt used room) None (Some (nowhere BookFull)) ≡ None → used < room
 room_left used room may = grind (arith, nat_tests)
+
+-- no rows fit any room, and climb
+pub none_within : (V : Type 0) (room : ℕ) → length {A = Row V} [] ≤ room
+none_within V room = omega arith
+
+pub none_rising : (V : Type 0) → Climbs {R = Row V} (λ r. r.number) []
+none_rising V i j d before inside = absurd (omega arith)
 
 module _ {V : Type 0} where
   abbrev pub key_of : Row V → ℕ
@@ -43,11 +51,21 @@ module _ {V : Type 0} where
 
   -- where a row may come in there is room for it, and its number is above the last one's
   pub row_within : (held : Held V) (row : Row V) → row_fault held row.number ≡ None → length (held.rows ++ row ∷ []) ≤ held.room
-  row_within held row may =
-      let full = cond (nat_lt (length held.rows) held.room) None (Some (nowhere BookFull)) in
-      omega (arith, length-append held.rows (row ∷ []), room_left (length held.rows) held.room (none_first (above_last held.rows row.number) full may).1)
+  row_within held row may = omega (arith, length-append held.rows (row ∷ []), room_left (length held.rows) held.room (none_first _ _ may).1)
 
   pub row_rising : (held : Held V) (row : Row V) → Climbs key_of held.rows → row_fault held row.number ≡ None → Climbs key_of (held.rows ++ row ∷ [])
-  row_rising held row climbs may =
-      let full = cond (nat_lt (length held.rows) held.room) None (Some (nowhere BookFull)) in
-      climbs_on held.rows row climbs (none_first (above_last held.rows row.number) full may).0
+  row_rising held row climbs may = climbs_on held.rows row climbs (none_first _ _ may).0
+
+  -- what is so of what a book holds, as one fact
+  abbrev Facts : Held V → Type 0
+  Facts held = (length held.rows ≤ held.room) × Climbs (λ r. r.number) held.rows
+
+  one_fact : (held : Held V) → IsProp (Facts held)
+  one_fact held = Prim.hlevel props
+
+  abbrev standing : (held : Held V) → Facts held → Standing V
+  standing held facts = record { held = held; within = facts.0; rising = facts.1 }
+
+  -- books that hold the same are the same
+  pub same : (a b : Standing V) → a.held ≡ b.held → a ≡ b
+  same a b e = subst (λ k. (f : Facts k) → a ≡ standing k f) e (λ f. ap (standing a.held) (one_fact a.held (a.within, a.rising) f)) (b.within, b.rising)
